@@ -1,0 +1,5 @@
+use Rattle.cfs_file.proofs.Spans.{reaches_over-covers}
+use Rattle.cfs_file.proofs.span.covers.Goals as goal
+
+pub returns : goal.returns
+returns c = rw c.test_cover.ensures (reaches_over-covers _ _)
