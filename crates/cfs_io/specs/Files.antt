@@ -3,7 +3,7 @@ use Rattle.std.specs.Prelude.{◌≡◌, ◌≢◌, ℕ, List, Some, None, ⊤, 
 use Rattle.std.specs.declared.option.Option.{Option}
 use Rattle.std.specs.Ordering.{nat_cmp}
 use Rattle.std.specs.Cmp.Lexicographic.{slice_cmp}
-use Rattle.std.specs.FinMap.{FinMap, get, insert}
+use Rattle.std.specs.FinMap.{FinMap, get, insert, from_entries}
 
 -- a finite map from names to bytes
 abbrev pub Files : Type 0
@@ -28,3 +28,7 @@ abbrev pub OthersKept : Option Files → Option Files → List ℕ → Type 0
 OthersKept None new name = ⊤
 OthersKept (Some old) None name = ⊥
 OthersKept (Some old) (Some new) name = (q : List ℕ) → q ≢ name → get new q ≡ get old q
+
+-- the files of a list; of two with one name the first
+abbrev pub files_of : List (List ℕ × List ℕ) → Files
+files_of = from_entries

@@ -2,6 +2,8 @@
 use Rattle.std.specs.Prelude.{◌≡◌, ℕ, List, drop}
 use Rattle.cfs_io.specs.declared.mem_source.MemSource.{MemSource}
 use Rattle.cfs_io.specs.declared.mem_sink.MemSink.{MemSink}
+use Rattle.cfs_io.specs.declared.mem_shelf.MemShelf.{MemShelf}
+use Rattle.cfs_io.specs.Files.{Files, files_of}
 
 -- the bytes that a source has left
 abbrev pub source_left : MemSource → List ℕ
@@ -30,3 +32,15 @@ sink_writes sink = sink.calls.made
 -- how many bytes a write takes at most
 abbrev pub sink_chunk : MemSink → ℕ
 sink_chunk sink = sink.chunk
+
+-- the files of a shelf
+abbrev pub shelf_files : MemShelf → Files
+shelf_files shelf = files_of shelf.files.items
+
+-- the numbers of the calls that are to fail
+abbrev pub failing_calls : MemShelf → List ℕ
+failing_calls shelf = shelf.calls.failing.items
+
+-- how many calls were made
+abbrev pub shelf_calls : MemShelf → ℕ
+shelf_calls shelf = shelf.calls.made

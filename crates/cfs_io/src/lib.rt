@@ -8,6 +8,7 @@
 mod call_plan;
 mod io_fault;
 mod load_refusal;
+mod mem_shelf;
 mod mem_sink;
 mod mem_source;
 mod read_refusal;
@@ -20,6 +21,7 @@ mod std_source;
 
 pub use io_fault::IoFault;
 pub use load_refusal::LoadRefusal;
+pub use mem_shelf::MemShelf;
 pub use mem_sink::MemSink;
 pub use mem_source::MemSource;
 pub use read_refusal::ReadRefusal;
@@ -29,3 +31,6 @@ pub use sink::{Sink, write_all};
 pub use source::Source;
 pub use std_sink::StdSink;
 pub use std_source::StdSource;
+
+#[cfg(test)]
+mod tests;

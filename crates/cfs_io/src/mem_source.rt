@@ -100,10 +100,10 @@ impl Source for MemSource {
     }
 }
 
-/// Copies as many bytes as both have, at most `limit`, and says how many.
+/// Copies as many bytes as both have, at most `limit`, to the front of `to`, and says how many.
 fn copy_front(from: &[u8], limit: usize, to: &mut [u8]) -> usize
     ensures count { result ≡ min limit (min (length from.now) (length to.old)) }
-    ensures copied { to.new ≡ take result from.now ++ drop result to.old }
+    ensures copied { take result to.new ≡ take result from.now }
 {
     let count = limit.min(from.len().min(to.len()));
     to[..count].copy_from_slice(&from[..count]);
