@@ -1,0 +1,189 @@
+//! What no clause says: that the calls succeed, and that the definitions mean what they should.
+
+use crate::{
+    IoFault, LONGEST_SCRIPT, LoadRefusal, MemShelf, MemSink, MemSource, ReadRefusal, Shelf, Sink,
+    StdSink, StdSource, read_script, write_all,
+};
+use cfs_file::{Bytes, Word};
+use std::io;
+use std::test::Fail;
+
+/// A reader whose second read fails.
+#[derive(Drop)]
+struct Broken {
+    is_broken: bool,
+}
+
+impl io::Read for Broken {
+    fn read(&mut self, out: &mut [u8]) -> io::Result<usize> {
+        if self.is_broken || out.is_empty() {
+            return Err(io::Error::from(io::ErrorKind::Other));
+        }
+        self.is_broken = true;
+        out[0] = b'#';
+        Ok(1)
+    }
+}
+
+#[test]
+fn reads_a_source_up_to_its_end_or_its_fault(rt: HostRuntime) -> Result<(), Fail> {
+    let alloc = rt.alloc();
+    let cases: [(usize, u64, Option<&str>, &str); 6] = [
+        (64, 0, Some("hello world"), ""),
+        (4, 0, Some("hello world"), ""),
+        (1, 0, Some("hello world"), ""),
+        (4, 1, None, "hello world"),
+        (4, 3, None, "rld"),
+        // The fifth read is never made.
+        (4, 5, Some("hello world"), ""),
+    ];
+    for (chunk, failing, want, left) in cases {
+        let bytes = Vec::from_slice(alloc, b"hello world")?;
+        let failing = Vec::from_slice(alloc, &[failing])?;
+        let mut source = MemSource::in_chunks(bytes, chunk.max(1), failing);
+        let read = read_script(alloc, &mut source);
+        match want {
+            Some(want) => {
+                assert_eq!(rt; read?.as_slice(), want.as_bytes(), "in chunks of {chunk}");
+                assert_eq!(rt; source.faults(), 0);
+            }
+            None => {
+                assert_eq!(rt;
+                    read.err(),
+                    Some(ReadRefusal::Failed),
+                    "in chunks of {chunk}"
+                );
+                assert_eq!(rt; source.faults(), 1);
+            }
+        }
+        assert_eq!(rt; source.left(), left.as_bytes(), "in chunks of {chunk}");
+    }
+    Ok(())
+}
+
+#[test]
+fn reads_the_longest_script_and_none_longer(rt: HostRuntime) -> Result<(), Fail> {
+    let alloc = rt.alloc();
+    let longest = LONGEST_SCRIPT as usize;
+    for (length, want) in [(longest, None), (longest + 1, Some(ReadRefusal::TooLong))] {
+        let mut source = MemSource::new(vec![in alloc; b'#'; length]?, Vec::new(alloc));
+        match read_script(alloc, &mut source) {
+            Ok(script) => {
+                assert_eq!(rt; want, None);
+                assert_eq!(rt; script.len(), length);
+            }
+            Err(refusal) => assert_eq!(rt; want, Some(refusal)),
+        }
+    }
+    Ok(())
+}
+
+#[test]
+fn writes_a_piece_up_to_its_end_or_a_fault(rt: HostRuntime) -> Result<(), Fail> {
+    let alloc = rt.alloc();
+    let cases: [(usize, u64, Result<(), IoFault>, &str); 4] = [
+        (64, 0, Ok(()), "hello world"),
+        (3, 0, Ok(()), "hello world"),
+        (3, 3, Err(IoFault), "hello "),
+        (64, 1, Err(IoFault), ""),
+    ];
+    for (chunk, failing, want, written) in cases {
+        let failing = Vec::from_slice(alloc, &[failing])?;
+        let mut sink = MemSink::in_chunks(alloc, chunk.max(1), failing);
+        assert_eq!(rt;
+            write_all(&mut sink, b"hello world"),
+            want,
+            "in chunks of {chunk}"
+        );
+        assert_eq!(rt; sink.written(), written.as_bytes(), "in chunks of {chunk}");
+        assert_eq!(rt; sink.faults() == 0, want.is_ok());
+    }
+    let mut sink = MemSink::new(alloc, Vec::new(alloc));
+    assert_eq!(rt; sink.write(b"ab"), Ok(2));
+    assert_eq!(rt; sink.write(b""), Ok(0));
+    assert_eq!(rt; sink.written(), b"ab".as_slice());
+    Ok(())
+}
+
+#[test]
+fn keeps_files_by_name(rt: HostRuntime) -> Result<(), Fail> {
+    let alloc = rt.alloc();
+    let mut shelf = MemShelf::new(alloc, Vec::from_slice(alloc, &[6, 7])?);
+    // Each call: the name, the bytes of a save (none: a load), and what it answers.
+    let calls: [(&str, Option<&str>, Result<&str, LoadRefusal>); 9] = [
+        ("a", None, Err(LoadRefusal::Absent)),
+        ("a", Some("one"), Ok("")),
+        ("b", Some("two"), Ok("")),
+        ("a", Some("three"), Ok("")),
+        ("a", None, Ok("three")),
+        ("b", Some("lost"), Err(LoadRefusal::Failed)),
+        ("b", None, Err(LoadRefusal::Failed)),
+        ("b", None, Ok("two")),
+        ("", None, Err(LoadRefusal::Absent)),
+    ];
+    for (name, bytes, want) in calls {
+        let name = Word::from_slice(alloc, name.as_bytes())?;
+        match bytes {
+            Some(bytes) => {
+                let saved = shelf.save(&name, bytes.as_bytes());
+                assert_eq!(rt; saved.is_ok(), want.is_ok(), "saving {bytes}");
+            }
+            None => match shelf.load(&name) {
+                Ok(bytes) => assert_eq!(rt; bytes.as_slice(), want?.as_bytes()),
+                Err(refusal) => assert_eq!(rt; want.err(), Some(refusal)),
+            },
+        }
+    }
+    assert_eq!(rt; (shelf.load_faults(), shelf.save_faults()), (1, 1));
+
+    let name = Word::from_slice(alloc, b"c")?;
+    let mut files = Vec::new(alloc);
+    files.push((
+        Word::from_slice(alloc, b"c")?,
+        Bytes::from_slice(alloc, b"first")?,
+    ))?;
+    files.push((
+        Word::from_slice(alloc, b"c")?,
+        Bytes::from_slice(alloc, b"second")?,
+    ))?;
+    let mut shelf = MemShelf::with_files(alloc, files, Vec::new(alloc));
+    assert_eq!(rt; shelf.load(&name)?.as_slice(), b"first".as_slice());
+    Ok(())
+}
+
+#[test]
+fn reads_through_a_reader_of_std(rt: HostRuntime) -> Result<(), Fail> {
+    let alloc = rt.alloc();
+    let mut source = StdSource::new(b"hello".as_slice());
+    assert_eq!(rt;
+        read_script(alloc, &mut source)?.as_slice(),
+        b"hello".as_slice()
+    );
+    assert_eq!(rt; source.faults(), 0);
+
+    let mut source = StdSource::new(Broken { is_broken: false });
+    assert_eq!(rt;
+        read_script(alloc, &mut source).err(),
+        Some(ReadRefusal::Failed)
+    );
+    assert_eq!(rt; source.faults(), 1);
+    Ok(())
+}
+
+#[test]
+fn writes_through_a_writer_of_std(rt: HostRuntime) -> Result<(), Fail> {
+    let alloc = rt.alloc();
+    let mut out = Vec::new(alloc);
+    let mut sink = StdSink::new(&mut out);
+    assert_eq!(rt; write_all(&mut sink, b"hello"), Ok(()));
+    assert_eq!(rt; sink.flush(), Ok(()));
+    assert_eq!(rt; sink.faults(), 0);
+    assert_eq!(rt; out.as_slice(), b"hello".as_slice());
+
+    // A writer with room for four bytes takes none of the fifth.
+    let mut sink = StdSink::new(io::Cursor::new([0; 4]));
+    assert_eq!(rt; write_all(&mut sink, b"hello"), Err(IoFault));
+    assert_eq!(rt; sink.faults(), 1);
+    assert_eq!(rt; sink.write(b""), Ok(0));
+    Ok(())
+}
