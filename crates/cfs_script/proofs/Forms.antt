@@ -9,6 +9,9 @@ use Rattle.cfs_script.specs.declared.form.Form.TheVariants.{Caller, Open, Pwrite
 use Rattle.cfs_script.specs.declared.verb.Verb.{Verb}
 use Rattle.cfs_script.specs.declared.verb.Verb.TheVariants as verbs
 use Rattle.cfs_script.specs.Grammar.{Item, Key, Number, Data, IsWord, AreWords, IsForm, items_of, word_of, words_of}
+use Rattle.cfs_script.specs.declared.line.Line.{Line}
+use Rattle.cfs_script.specs.Session.{Allows}
+use Rattle.cfs_script.specs.Script.{IsNext}
 use Rattle.cfs_script.specs.Reading.{number_of, read, named, orders, requests, order_of, request_of, order_row, request_row, after_order, after_caller, after_first, form_of}
 use Rattle.cfs_script.proofs.Numbers.{number_of-takes, number_of-again}
 use Rattle.cfs_script.proofs.Rows.{bind_some, Spells, read-takes, Leads, read-again}
@@ -122,3 +125,14 @@ form_of-again (Pread c fd offset count) words h = request_again c verbs.Pread (P
 
 pub IsForm-one : (a b : Form) (text : List ℕ) → IsForm a text → IsForm b text → a ≡ b
 IsForm-one a b text h k = same_Some _ _ (sym (form_of-again a (words_of text) h) ∙ form_of-again b (words_of text) k)
+
+-- ---- the next line
+
+pub no_next : (before : List Line) (text : List ℕ) → form_of (words_of text) ≡ None → (line : Line) → IsNext before text line → ⊥
+no_next before text none line next = none-some _ (sym none ∙ form_of-again line.form (words_of text) next.form)
+
+pub not_allowed : (before : List Line) (text : List ℕ) (form : Form) → form_of (words_of text) ≡ Some form → (Allows before form → ⊥) →
+    (line : Line) → IsNext before text line → ⊥
+not_allowed before text form read none line next =
+    let same : line.form ≡ form = same_Some _ _ (sym (form_of-again line.form (words_of text) next.form) ∙ read) in
+    none (subst (λ (f : Form). Allows before f) same next.allowed)

@@ -3,3 +3,4 @@ pub mod Numbers
 pub mod Rows
 pub mod Forms
 pub mod Progress
+pub mod Shapes

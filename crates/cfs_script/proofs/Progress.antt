@@ -6,15 +6,17 @@ use Rattle.cfs_script.specs.declared.line.Line.{Line}
 use Rattle.cfs_script.specs.declared.script.TheConstants.{MOST_LINES}
 use Rattle.cfs_script.specs.Grammar.{lines_of, IsForm, AreForms}
 use Rattle.cfs_script.specs.Session.{Allows, Keeps, IsSession}
-use Rattle.cfs_script.specs.Script.{IsScript, IsNoScript, IsFront, IsFirstOutside, IsNext}
+use Rattle.cfs_script.specs.declared.script_refusal.ScriptRefusal.{ScriptRefusal}
+use Rattle.cfs_script.specs.declared.script_refusal.ScriptRefusal.TheVariants as refusals
+use Rattle.cfs_script.specs.Script.{IsScript, IsNoScript, IsFront, IsFirstOutside, IsNext, OnLine}
 use Rattle.cfs_script.proofs.Forms.{IsForm-one}
 
 -- ---- lines and their texts
 
-abbrev make : ℕ → Form → Line
+abbrev pub make : ℕ → Form → Line
 make n form = record { number = n; form = form }
 
-Line-one : (a b : Line) → a.number ≡ b.number → a.form ≡ b.form → a ≡ b
+pub Line-one : (a b : Line) → a.number ≡ b.number → a.form ≡ b.form → a ≡ b
 Line-one a b e f = let same : make a.number a.form ≡ make b.number b.form = rw (e, f) refl in same
 
 AreForms-length : (n : ℕ) (lines : List Line) (texts : List (List ℕ)) → AreForms n lines texts → length lines ≡ length texts
@@ -169,6 +171,22 @@ progress_lone bytes lines p one = record {
     omega (arith, AreForms-length 1 lines (lines_of bytes) (all_read bytes lines p), AreForms-length 1 others _ front.forms, length-take (length others) (lines_of bytes));
 }
 
+pub progress_only : (bytes : List ℕ) (lines : List Line) → Progress bytes lines [] → (others : List Line) → IsScript bytes others → others ≡ lines
+progress_only bytes lines p others script = AreForms-one 1 others lines (lines_of bytes) script.forms (all_read bytes lines p)
+
 pub progress_lone-refused : (bytes : List ℕ) (lines : List Line) → Progress bytes lines [] → length lines ≡ 1 → IsNoScript bytes
 progress_lone-refused bytes lines p one others script =
-    script.session.whole (ap length (IsScript-one bytes others lines script (record { forms = all_read bytes lines p; few = p.few; session = script.session })) ∙ one)
+    let same : others ≡ lines = progress_only bytes lines p others script in
+    script.session.whole (ap (λ (ls : List Line). length ls) same ∙ one)
+
+-- ---- a refusal of the next line
+
+pub next_refused : (bytes : List ℕ) (lines : List Line) (text : List ℕ) (left : List (List ℕ)) (refusal : ScriptRefusal) → Progress bytes lines (text ∷ left) →
+    OnLine refusal (λ _. (line : Line) → IsNext lines text line → ⊥) → OnLine refusal (λ _. IsNoScript bytes)
+next_refused bytes lines text left (refusals.Line number) p none = progress_refused bytes lines text left p none
+next_refused bytes lines text left refusals.NoMemory p none = tt
+
+pub next_first : (bytes : List ℕ) (lines : List Line) (text : List ℕ) (left : List (List ℕ)) (refusal : ScriptRefusal) → Progress bytes lines (text ∷ left) →
+    OnLine refusal (λ number. number ≡ length lines + 1) → OnLine refusal (λ _. (line : Line) → IsNext lines text line → ⊥) → OnLine refusal (IsFirstOutside bytes)
+next_first bytes lines text left (refusals.Line number) p is none = rw is (progress_outside bytes lines text left p none)
+next_first bytes lines text left refusals.NoMemory p is none = tt
