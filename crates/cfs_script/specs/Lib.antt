@@ -1,0 +1,5 @@
+pub mod Grammar
+pub mod Session
+pub mod Script
+pub mod Reading
+pub mod Left
