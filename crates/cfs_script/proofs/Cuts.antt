@@ -7,8 +7,7 @@ use Rattle.std.proofs.lemmas.Option.{cond_some}
 use Rattle.std.specs.Prelude.{◌==◌}
 use Rattle.cfs_script.specs.declared.form.Form.{Form}
 use Rattle.cfs_script.specs.Grammar.{lines_of, without_empty_end}
-use Rattle.cfs_script.specs.Left.{words_left}
-use Rattle.cfs_script.specs.Reading.{ended}
+use Rattle.cfs_script.specs.Reading.{ended, words_left}
 use Rattle.std.specs.List.{slice_split, join_with_byte, onto_first, position_or_len, before_first, after_first}
 
 cond_none : {A : Type 0} (b : Bool) (x : A) → cond b (Some x) None ≡ None → b ≡ false
