@@ -2,15 +2,17 @@
 use Rattle.std.proofs.Common.{◌≡◌, ℕ, ◌+◌, ◌*◌, ◌-◌, ◌<◌, ◌≤◌, ◌^◌, Bool, true, false, cond, ◌&&◌, ◌||◌, List, [], ◌∷◌, ◌++◌, length, take, drop, get_or, Option, Some, None, arith, refl, rules, sym, subst, ap, ◌∙◌, ltb, leb, inl, inr}
 use Rattle.std.specs.Prelude.{codes, All, nat_eq, nat_le, nat_lt, ◌==◌, not}
 use Rattle.std.specs.Bool.{Decides}
-use Rattle.std.specs.List.{list_all, starts_with}
+use Rattle.std.specs.List.{list_all}
 use Rattle.std.specs.Char.{is_ascii_digit, digit_value}
 use Rattle.std.specs.Fmt.{decimal}
 use Rattle.std.specs.Str.Parse.{digits_value}
-use Rattle.std.proofs.lemmas.Bool.Decides.{nat_tests, eqb_tells, leb_tells, Decides-eqb, Decides-by_and}
+use Rattle.std.proofs.lemmas.Bool.Decides.{nat_tests, eqb_tells, leb_tells, Decides-by_and}
 use Rattle.std.proofs.lemmas.Fmt.{decimal-digits_value, digits_value-decimal, digits_decimal, decimal_nonempty, first_decimal, decimal_digit}
 use Rattle.std.proofs.lemmas.Int.Digits.{digits_value_more}
 use Rattle.std.proofs.lemmas.Option.{cond_some}
-use Rattle.std.proofs.lemmas.Slice.Eq.{starts_is}
+use Rattle.std.proofs.lemmas.Slice.Eq.{bytes_eq-Decides}
+use Rattle.std.proofs.lemmas.List.{take-append-drop}
+use Rattle.std.specs.Str.{bytes_eq}
 use Rattle.std.proofs.lemmas.Str.{digit_value_digit}
 use Rattle.std.proofs.lemmas.Str.Parse.{IsNumeralModel, numerals_by_value, digit_at}
 use Rattle.cfs_script.specs.Grammar.{largest_number, most_bytes, IsWord, Number, Data, IsData, IsGraphic}
@@ -71,8 +73,8 @@ number_of-takes least most word n e =
     let small : value ≤ largest_number = leb-true _ _ second.0 in
     let low : least ≤ value = leb-true _ _ third.0 in
     let high : value ≤ most = leb-true _ _ third.1 in
-    let spelt : decimal value ≡ word = decimal-digits_value own word canonical.digits canonical.some canonical.zero (omega arith) in
-    subst (λ (m : ℕ). IsWord (Number least most m) word) found.1 (sym spelt, low, high, small)
+    let spelled : decimal value ≡ word = decimal-digits_value own word canonical.digits canonical.some canonical.zero (omega arith) in
+    subst (λ (m : ℕ). IsWord (Number least most m) word) found.1 (sym spelled, low, high, small)
 
 decimal-canonical : (n : ℕ) → n < 2 ^ 64 → IsCanonical (decimal n)
 decimal-canonical n small = record {
@@ -106,12 +108,13 @@ pub payload_of-takes : (word bytes : List ℕ) → payload_of word ≡ Some byte
 unfolding payload_of
 payload_of-takes word bytes e =
     let rest = drop 2 word in
-    let found = cond_some (starts_with nat_eq word (codes "t:") && (list_all is_graphic rest && (nat_lt 0 (length rest) && nat_le (length rest) most_bytes))) rest bytes e in
-    let first = and_parts (starts_with nat_eq word (codes "t:")) (list_all is_graphic rest && (nat_lt 0 (length rest) && nat_le (length rest) most_bytes)) found.0 in
+    let found = cond_some (bytes_eq (take 2 word) (codes "t:") && (list_all is_graphic rest && (nat_lt 0 (length rest) && nat_le (length rest) most_bytes))) rest bytes e in
+    let first = and_parts (bytes_eq (take 2 word) (codes "t:")) (list_all is_graphic rest && (nat_lt 0 (length rest) && nat_le (length rest) most_bytes)) found.0 in
     let second = and_parts (list_all is_graphic rest) (nat_lt 0 (length rest) && nat_le (length rest) most_bytes) first.1 in
     let third = and_parts (nat_lt 0 (length rest)) (nat_le (length rest) most_bytes) second.1 in
-    let spelt : word ≡ codes "t:" ++ rest = (starts_is Decides-eqb word (codes "t:") _ refl).0 first.0 in
-    subst (λ (b : List ℕ). IsData b word) found.1 (spelt, (all_graphic rest).0 second.0, leb-true 1 (length rest) third.0, leb-true _ _ third.1)
+    let mark : take 2 word ≡ codes "t:" = (bytes_eq-Decides (take 2 word) (codes "t:")).0 first.0 in
+    let spelled : word ≡ codes "t:" ++ rest = sym (take-append-drop 2 word) ∙ ap (λ (front : List ℕ). front ++ rest) mark in
+    subst (λ (b : List ℕ). IsData b word) found.1 (spelled, (all_graphic rest).0 second.0, leb-true 1 (length rest) third.0, leb-true _ _ third.1)
 
 pub payload_of-again : (word bytes : List ℕ) → IsData bytes word → payload_of word ≡ Some bytes
 unfolding payload_of

@@ -1,6 +1,6 @@
 -- Reading a line from left to right, word by word, by the row of its form.
-use Rattle.std.specs.Prelude.{◌≡◌, ℕ, ◌-◌, List, [], ◌∷◌, length, drop, codes, Option, Some, None, Result, Ok, Err, option_and_then, Bool, true, false, ◌&&◌, ◌||◌, ◌==◌, nat_lt, nat_le, not, if◌then◌else◌, nat_eq}
-use Rattle.std.specs.List.{list_all, starts_with}
+use Rattle.std.specs.Prelude.{◌≡◌, ℕ, ◌-◌, List, [], ◌∷◌, length, take, drop, codes, Option, Some, None, Result, Ok, Err, option_and_then, Bool, true, false, ◌&&◌, ◌||◌, ◌==◌, nat_lt, nat_le, not, if◌then◌else◌, nat_eq}
+use Rattle.std.specs.List.{list_all}
 use Rattle.std.specs.Str.{bytes_eq}
 use Rattle.std.specs.Char.{is_ascii_digit}
 use Rattle.std.specs.Str.Parse.{digits_value}
@@ -55,7 +55,7 @@ is_graphic b = nat_le 33 b && nat_le b 126
 unfoldable pub payload_of : List ℕ → Option (List ℕ)
 payload_of word =
     let bytes = drop 2 word in
-    if starts_with nat_eq word (codes "t:") && (list_all is_graphic bytes && (nat_lt 0 (length bytes) && nat_le (length bytes) most_bytes)) then Some bytes else None
+    if bytes_eq (take 2 word) (codes "t:") && (list_all is_graphic bytes && (nat_lt 0 (length bytes) && nat_le (length bytes) most_bytes)) then Some bytes else None
 
 -- ---- the next word of a line, and the words after it
 
