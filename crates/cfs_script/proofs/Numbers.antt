@@ -1,9 +1,9 @@
 -- What a word spells is read from it, and nothing else is: numbers and the bytes of transfers.
-use Rattle.std.proofs.Common.{◌≡◌, ℕ, ◌+◌, ◌*◌, ◌-◌, ◌<◌, ◌≤◌, ◌^◌, Bool, true, false, cond, ◌&&◌, ◌||◌, List, [], ◌∷◌, ◌++◌, length, take, drop, get_or, Option, Some, None, arith, refl, rules, sym, subst, ap, ◌∙◌, ltb, leb, inl, inr}
-use Rattle.std.specs.Prelude.{codes, All, nat_eq, nat_le, nat_lt, ◌==◌, not}
+use Rattle.std.proofs.Common.{◌≡◌, ℕ, ◌+◌, ◌*◌, ◌-◌, ◌<◌, ◌≤◌, ◌^◌, Bool, true, false, ◌&&◌, ◌||◌, List, [], ◌∷◌, ◌++◌, length, take, drop, get_or, Some, arith, refl, rules, sym, subst, ap, ◌∙◌, leb, inl, inr}
+use Rattle.std.specs.Prelude.{codes, All, nat_le, nat_lt, ◌==◌, not}
 use Rattle.std.specs.Bool.{Decides}
 use Rattle.std.specs.List.{list_all}
-use Rattle.std.specs.Char.{is_ascii_digit, digit_value}
+use Rattle.std.specs.Char.{is_ascii_digit}
 use Rattle.std.specs.Fmt.{decimal}
 use Rattle.std.specs.Str.Parse.{digits_value}
 use Rattle.std.proofs.lemmas.Bool.Decides.{nat_tests, eqb_tells, leb_tells, Decides-by_and}
@@ -15,7 +15,7 @@ use Rattle.std.proofs.lemmas.List.{take-append-drop}
 use Rattle.std.specs.Str.{bytes_eq}
 use Rattle.std.proofs.lemmas.Str.{digit_value_digit}
 use Rattle.std.proofs.lemmas.Str.Parse.{IsNumeralModel, numerals_by_value, digit_at}
-use Rattle.cfs_script.specs.Grammar.{largest_number, most_bytes, IsWord, Number, Data, IsData, IsGraphic}
+use Rattle.cfs_script.specs.Grammar.{largest_number, most_bytes, IsWord, Number, IsData, IsGraphic}
 use Rattle.cfs_script.specs.Reading.{is_canonical, number_of, is_graphic, payload_of}
 
 own : IsNumeralModel (λ ds. list_all is_ascii_digit ds ≡ true) (digits_value 10)

@@ -1,10 +1,10 @@
 -- How far a script is read, line by line.
-use Rattle.std.proofs.Common.{◌≡◌, ◌≢◌, ℕ, zero, suc, ◌+◌, ◌<◌, ◌≤◌, min, List, [], ◌∷◌, ◌++◌, length, take, arith, refl, rules, sym, subst, ap, ◌∙◌, append_assoc, add-one}
-use Rattle.std.proofs.lemmas.List.{append-nil, length-append, length-take, length-take-le, take_at, take_all}
+use Rattle.std.proofs.Common.{◌≡◌, ◌≢◌, ℕ, zero, suc, ◌+◌, ◌≤◌, List, [], ◌∷◌, ◌++◌, length, take, arith, refl, sym, subst, ap, ◌∙◌, append_assoc}
+use Rattle.std.proofs.lemmas.List.{append-nil, length-append, length-take, length-take-le, take_at}
 use Rattle.cfs_script.specs.declared.form.Form.{Form}
 use Rattle.cfs_script.specs.declared.line.Line.{Line}
 use Rattle.cfs_script.specs.Grammar.{lines_of, IsForm, AreForms}
-use Rattle.cfs_script.specs.Session.{Allows, Keeps, IsSession}
+use Rattle.cfs_script.specs.Session.{Allows, Keeps}
 use Rattle.cfs_script.specs.declared.script_refusal.ScriptRefusal.{ScriptRefusal}
 use Rattle.cfs_script.specs.declared.script_refusal.ScriptRefusal.TheVariants as refusals
 use Rattle.cfs_script.specs.Script.{most_lines, IsScript, IsNoScript, IsFront, IsFirstOutside, IsNext, OnLine}

@@ -1,12 +1,12 @@
 -- What a row reads has the items that its form has, and is read again.
-use Rattle.std.proofs.Common.{◌≡◌, ℕ, ◌+◌, Bool, true, false, cond, List, [], ◌∷◌, ◌++◌, length, Option, Some, None, arith, refl, rules, sym, subst, ap, ◌∙◌, append_assoc}
+use Rattle.std.proofs.Common.{◌≡◌, ℕ, List, [], ◌∷◌, ◌++◌, Option, Some, None, refl, rules, subst, ap, append_assoc}
 use Rattle.std.specs.Str.{bytes_eq}
 use Rattle.std.proofs.lemmas.Option.{cond_some, none-some, same_Some}
 use Rattle.std.proofs.lemmas.List.{append-nil}
 use Rattle.std.proofs.lemmas.Slice.Eq.{bytes_eq-Decides}
 use Rattle.cfs_script.specs.declared.form.Form.{Form}
 use Rattle.cfs_script.specs.Grammar.{Item, Key, Number, Data, IsWord, AreWords, items_of}
-use Rattle.cfs_script.specs.Reading.{◌>>=◌, number_of, payload_of, word_at, key_at, number_at, payload_at, ended, Row, Never, End, KeyThen, NumberThen, DataThen, read}
+use Rattle.cfs_script.specs.Reading.{◌>>=◌, number_of, payload_of, key_at, number_at, payload_at, Row, Never, End, KeyThen, NumberThen, DataThen, read}
 use Rattle.cfs_script.proofs.Numbers.{number_of-takes, number_of-again, payload_of-takes, payload_of-again}
 
 -- ---- one word

@@ -1,12 +1,12 @@
 -- What a script of this grammar looks like, for the crates above.
-use Rattle.std.proofs.Common.{◌≡◌, ◌≢◌, ℕ, zero, suc, ◌+◌, ◌<◌, ◌≤◌, ◌⊎◌, inl, inr, List, [], ◌∷◌, ◌++◌, length, arith, refl, sym, ap, subst, ◌∙◌, Option, Some, None}
+use Rattle.std.proofs.Common.{◌≡◌, ◌≢◌, ℕ, zero, suc, ◌+◌, ◌<◌, ◌≤◌, ◌⊎◌, inl, inr, List, [], ◌∷◌, ◌++◌, length, arith, refl, subst, Some}
 use Rattle.std.specs.List.{slice_get}
 use Rattle.std.proofs.lemmas.List.{length-append}
 use Rattle.std.proofs.lemmas.Option.{none-some, same_Some}
 use Rattle.cfs_script.specs.declared.form.Form.{Form}
 use Rattle.cfs_script.specs.declared.form.Form.TheVariants.{Caller, Open, Pwrite, Pread}
 use Rattle.cfs_script.specs.declared.line.Line.{Line}
-use Rattle.cfs_script.specs.Grammar.{callers, last_offset, most_bytes, Item, Key, Number, Data, IsWord, AreWords, items_of, IsForm, AreForms, words_of, lines_of}
+use Rattle.cfs_script.specs.Grammar.{last_offset, most_bytes, Item, Number, Data, IsWord, AreWords, items_of, IsForm, AreForms, words_of, lines_of}
 use Rattle.cfs_script.specs.Session.{Allows, Keeps}
 use Rattle.cfs_script.specs.Script.{IsScript}
 use Rattle.cfs_script.proofs.Progress.{Line-one}

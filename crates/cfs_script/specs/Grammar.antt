@@ -8,14 +8,15 @@ use Rattle.cfs_script.specs.declared.line.Line.{Line}
 use Rattle.cfs_script.specs.declared.verb.Verb.{Verb}
 use Rattle.cfs_script.specs.declared.verb.Verb.TheVariants as verbs
 
--- the largest number of a script; the largest number of a caller; where the last transfer may begin,
--- and the most bytes that it moves
+-- the largest number that a script may spell
 abbrev pub largest_number : ℕ
 largest_number = 4294967295
 
+-- the largest number of a caller
 abbrev pub callers : ℕ
 callers = 16
 
+-- where the last transfer may begin, and the most bytes that one moves
 abbrev pub last_offset : ℕ
 last_offset = 1044480
 
@@ -23,6 +24,10 @@ abbrev pub most_bytes : ℕ
 most_bytes = 4096
 
 -- ---- lines and words
+
+-- the parts between the separators; bytes without one are one part
+abbrev pub parts_of : ℕ → List ℕ → List (List ℕ)
+parts_of separator bytes = slice_split (λ b. b == separator) bytes
 
 -- the parts, without an empty one at their end
 abbrev pub without_empty_end : List (List ℕ) → List (List ℕ)
@@ -32,11 +37,11 @@ without_empty_end (part ∷ parts) = part ∷ without_empty_end parts
 
 -- the lines: each is ended by the byte 10, which the last may lack
 abbrev pub lines_of : List ℕ → List (List ℕ)
-lines_of bytes = without_empty_end (slice_split (λ b. b == 10) bytes)
+lines_of bytes = without_empty_end (parts_of 10 bytes)
 
 -- the words of a line: one space stands between two words
 abbrev pub words_of : List ℕ → List (List ℕ)
-words_of line = slice_split (λ b. b == 32) line
+words_of line = parts_of 32 line
 
 -- ---- what a word spells
 

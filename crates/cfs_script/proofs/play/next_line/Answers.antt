@@ -1,4 +1,4 @@
-use Rattle.std.proofs.Common.{◌≡◌, ◌<◌, refl, sym, ◌∙◌, arith, length, true, false}
+use Rattle.std.proofs.Common.{◌≡◌, refl, sym, ◌∙◌, arith, true, false}
 use Rattle.cfs_script.proofs.Forms.{form_of-takes, no_next, not_allowed}
 use Rattle.cfs_script.specs.Grammar.{words_of}
 use Rattle.cfs_script.proofs.play.next_line.Goals as goal
