@@ -1,5 +1,5 @@
 -- A cut at the first separator takes the first part off.
-use Rattle.std.proofs.Common.{◌≡◌, ℕ, ◌+◌, ◌-◌, ◌<◌, ◌≤◌, Bool, true, false, cond, List, [], ◌∷◌, length, take, drop, get_or, Option, Some, None, position, arith, refl, rules, sym, subst, ltb, ap, ◌∙◌}
+use Rattle.std.proofs.Common.{◌≡◌, ℕ, ◌+◌, ◌<◌, ◌≤◌, Bool, true, false, cond, List, [], ◌∷◌, length, take, drop, Option, Some, None, position, arith, refl, sym, subst, ltb, ap, ◌∙◌}
 use Rattle.std.proofs.lemmas.Bool.{ltb-true, ltb-false}
 use Rattle.std.proofs.lemmas.List.Splits.{slice_split_none, slice_split_first, slice_split-cons_yes, slice_split-cons_no, join_with_byte-slice_split}
 use Rattle.std.proofs.lemmas.List.Sums.{fails_before_first}
@@ -7,9 +7,8 @@ use Rattle.std.proofs.lemmas.Option.{cond_some}
 use Rattle.std.specs.Prelude.{◌==◌}
 use Rattle.cfs_script.specs.declared.form.Form.{Form}
 use Rattle.cfs_script.specs.Grammar.{lines_of, without_empty_end}
-use Rattle.cfs_script.specs.Left.{words_left}
-use Rattle.cfs_script.specs.Reading.{ended}
-use Rattle.std.specs.List.{slice_split, join_with_byte, onto_first, position_or_len, before_first, after_first}
+use Rattle.cfs_script.specs.Reading.{ended, words_left}
+use Rattle.std.specs.List.{slice_split, join_with_byte, onto_first, position_or_len}
 
 cond_none : {A : Type 0} (b : Bool) (x : A) → cond b (Some x) None ≡ None → b ≡ false
 cond_none true x e = absurd cc

@@ -1,14 +1,13 @@
 -- A line is read as the form that it spells, and as no other.
-use Rattle.std.proofs.Common.{◌≡◌, ℕ, Bool, true, false, cond, List, [], ◌∷◌, ◌++◌, Option, Some, None, drop, refl, sym, subst, ap, ◌∙◌, inl, inr}
+use Rattle.std.proofs.Common.{◌≡◌, ℕ, Bool, true, false, cond, List, [], ◌∷◌, Option, Some, None, drop, refl, sym, subst, ap, ◌∙◌}
 use Rattle.std.specs.Str.{bytes_eq}
 use Rattle.std.proofs.lemmas.Option.{none-some, same_Some}
 use Rattle.std.proofs.lemmas.Slice.Eq.{bytes_eq-Decides}
-use Rattle.cfs_script.specs.declared.form.TheConstants.{CALLERS}
 use Rattle.cfs_script.specs.declared.form.Form.{Form}
 use Rattle.cfs_script.specs.declared.form.Form.TheVariants.{Caller, Open, Pwrite, Pread}
 use Rattle.cfs_script.specs.declared.verb.Verb.{Verb}
 use Rattle.cfs_script.specs.declared.verb.Verb.TheVariants as verbs
-use Rattle.cfs_script.specs.Grammar.{Item, Key, Number, Data, IsWord, AreWords, IsForm, items_of, word_of, words_of}
+use Rattle.cfs_script.specs.Grammar.{callers, Item, Key, Number, IsWord, AreWords, IsForm, items_of, word_of, words_of}
 use Rattle.cfs_script.specs.declared.line.Line.{Line}
 use Rattle.cfs_script.specs.Session.{Allows}
 use Rattle.cfs_script.specs.Script.{IsNext}
@@ -24,7 +23,7 @@ order_spells verbs.Open = tt
 order_spells verbs.Pwrite = tt
 order_spells verbs.Pread = tt
 
-request_spells : (c : ℕ) (verb : Verb) → Spells (request_row c verb) (Number 1 CALLERS c ∷ Key (word_of verb) ∷ [])
+request_spells : (c : ℕ) (verb : Verb) → Spells (request_row c verb) (Number 1 callers c ∷ Key (word_of verb) ∷ [])
 request_spells c verbs.Caller = tt
 request_spells c verbs.Open = refl
 request_spells c verbs.Pwrite = λ fd offset bytes. refl
@@ -53,33 +52,33 @@ unfolding after_order
 after_order-takes word words form e =
     let found = bind_some (order_of word) (λ verb. read (order_row verb) words) form e in
     read-takes (order_row found.0) (Key (word_of found.0) ∷ []) (word ∷ []) words form (order_spells found.0)
-      (order_of-word_of word found.0 found.1, tt) found.2
+    (order_of-word_of word found.0 found.1, tt) found.2
 
-after_caller-takes : (c : ℕ) (word : List ℕ) (words : List (List ℕ)) (form : Form) → IsWord (Number 1 CALLERS c) word →
+after_caller-takes : (c : ℕ) (word : List ℕ) (words : List (List ℕ)) (form : Form) → IsWord (Number 1 callers c) word →
     after_caller c words ≡ Some form → AreWords (items_of form) (word ∷ words)
 unfolding after_caller
 after_caller-takes c word [] form h e = absurd (none-some _ e)
 after_caller-takes c word (second ∷ words) form h e =
     let found = bind_some (request_of second) (λ verb. read (request_row c verb) words) form e in
-    read-takes (request_row c found.0) (Number 1 CALLERS c ∷ Key (word_of found.0) ∷ []) (word ∷ second ∷ []) words form (request_spells c found.0)
-      (h, (request_of-word_of second found.0 found.1, tt)) found.2
+    read-takes (request_row c found.0) (Number 1 callers c ∷ Key (word_of found.0) ∷ []) (word ∷ second ∷ []) words form (request_spells c found.0)
+    (h, (request_of-word_of second found.0 found.1, tt)) found.2
 
-after_first-takes : (o : Option ℕ) (word : List ℕ) (words : List (List ℕ)) (form : Form) → number_of 1 CALLERS word ≡ o →
+after_first-takes : (o : Option ℕ) (word : List ℕ) (words : List (List ℕ)) (form : Form) → number_of 1 callers word ≡ o →
     after_first o word words ≡ Some form → AreWords (items_of form) (word ∷ words)
 after_first-takes None word words form is e = after_order-takes word words form e
-after_first-takes (Some c) word words form is e = after_caller-takes c word words form (number_of-takes 1 CALLERS word c is) e
+after_first-takes (Some c) word words form is e = after_caller-takes c word words form (number_of-takes 1 callers word c is) e
 
 pub form_of-takes : (words : List (List ℕ)) (form : Form) → form_of words ≡ Some form → AreWords (items_of form) words
 unfolding form_of
 form_of-takes [] form e = absurd (none-some _ e)
-form_of-takes (word ∷ words) form e = after_first-takes (number_of 1 CALLERS word) word words form refl e
+form_of-takes (word ∷ words) form e = after_first-takes (number_of 1 callers word) word words form refl e
 
 -- ---- what is spelled is read
 
 -- a verb that begins a line is found there, and is no number
 record Begins (verb : Verb) : Type 0 where
   found : order_of (word_of verb) ≡ Some verb
-  no_number : number_of 1 CALLERS (word_of verb) ≡ None
+  no_number : number_of 1 callers (word_of verb) ≡ None
 
 caller_begins : Begins verbs.Caller
 unfolding order_of number_of
@@ -106,14 +105,14 @@ order_again verb form words b row l h = whole words (subst (λ (items : List Ite
   whole (word ∷ ws) k = rw (k.0, b.no_number, b.found) (read-again (order_row verb) (drop 1 (items_of form)) form ws l k.1)
 
 request_again : (c : ℕ) (verb : Verb) (form : Form) (words : List (List ℕ)) → request_of (word_of verb) ≡ Some verb →
-    items_of form ≡ Number 1 CALLERS c ∷ Key (word_of verb) ∷ drop 2 (items_of form) → Leads (request_row c verb) (drop 2 (items_of form)) form →
+    items_of form ≡ Number 1 callers c ∷ Key (word_of verb) ∷ drop 2 (items_of form) → Leads (request_row c verb) (drop 2 (items_of form)) form →
     AreWords (items_of form) words → form_of words ≡ Some form
 unfolding form_of after_caller
 request_again c verb form words f row l h = whole words (subst (λ (items : List Item). AreWords items words) row h) where
-  whole : (ws : List (List ℕ)) → AreWords (Number 1 CALLERS c ∷ Key (word_of verb) ∷ drop 2 (items_of form)) ws → form_of ws ≡ Some form
+  whole : (ws : List (List ℕ)) → AreWords (Number 1 callers c ∷ Key (word_of verb) ∷ drop 2 (items_of form)) ws → form_of ws ≡ Some form
   whole [] k = absurd k
   whole (word ∷ []) k = absurd k.1
-  whole (word ∷ second ∷ ws) k = rw (number_of-again 1 CALLERS word c k.0, k.1.0, f) (read-again (request_row c verb) (drop 2 (items_of form)) form ws l k.1.1)
+  whole (word ∷ second ∷ ws) k = rw (number_of-again 1 callers word c k.0, k.1.0, f) (read-again (request_row c verb) (drop 2 (items_of form)) form ws l k.1.1)
 
 pub form_of-again : (form : Form) (words : List (List ℕ)) → AreWords (items_of form) words → form_of words ≡ Some form
 form_of-again (Caller c uid gid) words h = order_again verbs.Caller (Caller c uid gid) words caller_begins refl (refl, refl, (refl, refl, (refl, refl, refl))) h

@@ -1,20 +1,21 @@
 -- What a word spells is read from it, and nothing else is: numbers and the bytes of transfers.
-use Rattle.std.proofs.Common.{◌≡◌, ℕ, ◌+◌, ◌*◌, ◌-◌, ◌<◌, ◌≤◌, ◌^◌, Bool, true, false, cond, ◌&&◌, ◌||◌, List, [], ◌∷◌, ◌++◌, length, take, drop, get_or, Option, Some, None, arith, refl, rules, sym, subst, ap, ◌∙◌, ltb, leb, inl, inr}
-use Rattle.std.specs.Prelude.{codes, All, nat_eq, nat_le, nat_lt, ◌==◌, not}
+use Rattle.std.proofs.Common.{◌≡◌, ℕ, ◌+◌, ◌*◌, ◌-◌, ◌<◌, ◌≤◌, ◌^◌, Bool, true, false, ◌&&◌, ◌||◌, List, [], ◌∷◌, ◌++◌, length, take, drop, get_or, Some, arith, refl, rules, sym, subst, ap, ◌∙◌, leb, inl, inr}
+use Rattle.std.specs.Prelude.{codes, All, nat_le, nat_lt, ◌==◌, not}
 use Rattle.std.specs.Bool.{Decides}
-use Rattle.std.specs.List.{list_all, starts_with}
-use Rattle.std.specs.Char.{is_ascii_digit, digit_value}
+use Rattle.std.specs.List.{list_all}
+use Rattle.std.specs.Char.{is_ascii_digit}
 use Rattle.std.specs.Fmt.{decimal}
 use Rattle.std.specs.Str.Parse.{digits_value}
-use Rattle.std.proofs.lemmas.Bool.Decides.{nat_tests, eqb_tells, leb_tells, Decides-eqb, Decides-by_and}
+use Rattle.std.proofs.lemmas.Bool.Decides.{nat_tests, eqb_tells, leb_tells, Decides-by_and}
 use Rattle.std.proofs.lemmas.Fmt.{decimal-digits_value, digits_value-decimal, digits_decimal, decimal_nonempty, first_decimal, decimal_digit}
 use Rattle.std.proofs.lemmas.Int.Digits.{digits_value_more}
 use Rattle.std.proofs.lemmas.Option.{cond_some}
-use Rattle.std.proofs.lemmas.Slice.Eq.{starts_is}
+use Rattle.std.proofs.lemmas.Slice.Eq.{bytes_eq-Decides}
+use Rattle.std.proofs.lemmas.List.{take-append-drop}
+use Rattle.std.specs.Str.{bytes_eq}
 use Rattle.std.proofs.lemmas.Str.{digit_value_digit}
 use Rattle.std.proofs.lemmas.Str.Parse.{IsNumeralModel, numerals_by_value, digit_at}
-use Rattle.cfs_script.specs.declared.form.TheConstants.{LARGEST_NUMBER, MOST_BYTES}
-use Rattle.cfs_script.specs.Grammar.{IsWord, Number, Data, IsData, IsGraphic}
+use Rattle.cfs_script.specs.Grammar.{largest_number, most_bytes, IsWord, Number, IsData, IsGraphic}
 use Rattle.cfs_script.specs.Reading.{is_canonical, number_of, is_graphic, payload_of}
 
 own : IsNumeralModel (λ ds. list_all is_ascii_digit ds ≡ true) (digits_value 10)
@@ -55,32 +56,32 @@ canonical-said : (word : List ℕ) → IsCanonical word → is_canonical word �
 canonical-said [] h = absurd (let none : 0 < 0 = h.some in omega arith)
 canonical-said (first ∷ rest) h =
     and_both (list_all is_ascii_digit (first ∷ rest)) (not (first == 48) || (length rest == 0)) h.digits
-      (elim (eqb_tells first 48) [
-          inl same ↦ rw same.0 (let alone : length rest + 1 ≡ 1 = omega (arith, h.zero same.1) in grind (arith, nat_tests))
-        | inr other ↦ rw other.0 refl
-      ])
+    (elim (eqb_tells first 48) [
+      | inl same ↦ rw same.0 (let alone : length rest + 1 ≡ 1 = omega (arith, h.zero same.1) in grind (arith, nat_tests))
+      | inr other ↦ rw other.0 refl
+    ])
 
 pub number_of-takes : (least most : ℕ) (word : List ℕ) (n : ℕ) → number_of least most word ≡ Some n → IsWord (Number least most n) word
 unfolding number_of
 number_of-takes least most word n e =
     let value = digits_value 10 word in
-    let found = cond_some (is_canonical word && (nat_le value LARGEST_NUMBER && (nat_le least value && nat_le value most))) value n e in
-    let first = and_parts (is_canonical word) (nat_le value LARGEST_NUMBER && (nat_le least value && nat_le value most)) found.0 in
-    let second = and_parts (nat_le value LARGEST_NUMBER) (nat_le least value && nat_le value most) first.1 in
+    let found = cond_some (is_canonical word && (nat_le value largest_number && (nat_le least value && nat_le value most))) value n e in
+    let first = and_parts (is_canonical word) (nat_le value largest_number && (nat_le least value && nat_le value most)) found.0 in
+    let second = and_parts (nat_le value largest_number) (nat_le least value && nat_le value most) first.1 in
     let third = and_parts (nat_le least value) (nat_le value most) second.1 in
     let canonical = canonical-says word first.0 in
-    let small : value ≤ LARGEST_NUMBER = leb-true _ _ second.0 in
+    let small : value ≤ largest_number = leb-true _ _ second.0 in
     let low : least ≤ value = leb-true _ _ third.0 in
     let high : value ≤ most = leb-true _ _ third.1 in
-    let spelt : decimal value ≡ word = decimal-digits_value own word canonical.digits canonical.some canonical.zero (omega arith) in
-    subst (λ (m : ℕ). IsWord (Number least most m) word) found.1 (sym spelt, low, high, small)
+    let spelled : decimal value ≡ word = decimal-digits_value own word canonical.digits canonical.some canonical.zero (omega arith) in
+    subst (λ (m : ℕ). IsWord (Number least most m) word) found.1 (sym spelled, low, high, small)
 
 decimal-canonical : (n : ℕ) → n < 2 ^ 64 → IsCanonical (decimal n)
 decimal-canonical n small = record {
   digits = digits_decimal own n small;
   some = decimal_nonempty n small;
   zero = λ first. elim (leb_tells n 0) [
-      inl none ↦ let is : n ≡ 0 = omega arith in rw (is, decimal_digit 0 (omega arith)) refl
+    | inl none ↦ let is : n ≡ 0 = omega arith in rw (is, decimal_digit 0 (omega arith)) refl
     | inr some ↦ let above = first_decimal n some.1 small in absurd (omega arith)
   ];
 }
@@ -88,11 +89,11 @@ decimal-canonical n small = record {
 pub number_of-again : (least most : ℕ) (word : List ℕ) (n : ℕ) → IsWord (Number least most n) word → number_of least most word ≡ Some n
 unfolding number_of
 number_of-again least most word n h =
-    let small : n ≤ LARGEST_NUMBER = h.3 in
+    let small : n ≤ largest_number = h.3 in
     let fits : n < 2 ^ 64 = omega arith in
     let canonical : is_canonical (decimal n) ≡ true = canonical-said (decimal n) (decimal-canonical n fits) in
     let value : digits_value 10 (decimal n) ≡ n = digits_value-decimal own n fits in
-    let below : leb n LARGEST_NUMBER ≡ true = le-leb _ _ small in
+    let below : leb n largest_number ≡ true = le-leb _ _ small in
     let low : leb least n ≡ true = le-leb _ _ h.1 in
     let high : leb n most ≡ true = le-leb _ _ h.2 in
     rw (h.0, canonical, value, below, low, high) refl
@@ -107,17 +108,18 @@ pub payload_of-takes : (word bytes : List ℕ) → payload_of word ≡ Some byte
 unfolding payload_of
 payload_of-takes word bytes e =
     let rest = drop 2 word in
-    let found = cond_some (starts_with nat_eq word (codes "t:") && (list_all is_graphic rest && (nat_lt 0 (length rest) && nat_le (length rest) MOST_BYTES))) rest bytes e in
-    let first = and_parts (starts_with nat_eq word (codes "t:")) (list_all is_graphic rest && (nat_lt 0 (length rest) && nat_le (length rest) MOST_BYTES)) found.0 in
-    let second = and_parts (list_all is_graphic rest) (nat_lt 0 (length rest) && nat_le (length rest) MOST_BYTES) first.1 in
-    let third = and_parts (nat_lt 0 (length rest)) (nat_le (length rest) MOST_BYTES) second.1 in
-    let spelt : word ≡ codes "t:" ++ rest = (starts_is Decides-eqb word (codes "t:") _ refl).0 first.0 in
-    subst (λ (b : List ℕ). IsData b word) found.1 (spelt, (all_graphic rest).0 second.0, leb-true 1 (length rest) third.0, leb-true _ _ third.1)
+    let found = cond_some (bytes_eq (take 2 word) (codes "t:") && (list_all is_graphic rest && (nat_lt 0 (length rest) && nat_le (length rest) most_bytes))) rest bytes e in
+    let first = and_parts (bytes_eq (take 2 word) (codes "t:")) (list_all is_graphic rest && (nat_lt 0 (length rest) && nat_le (length rest) most_bytes)) found.0 in
+    let second = and_parts (list_all is_graphic rest) (nat_lt 0 (length rest) && nat_le (length rest) most_bytes) first.1 in
+    let third = and_parts (nat_lt 0 (length rest)) (nat_le (length rest) most_bytes) second.1 in
+    let mark : take 2 word ≡ codes "t:" = (bytes_eq-Decides (take 2 word) (codes "t:")).0 first.0 in
+    let spelled : word ≡ codes "t:" ++ rest = sym (take-append-drop 2 word) ∙ ap (λ (front : List ℕ). front ++ rest) mark in
+    subst (λ (b : List ℕ). IsData b word) found.1 (spelled, (all_graphic rest).0 second.0, leb-true 1 (length rest) third.0, leb-true _ _ third.1)
 
 pub payload_of-again : (word bytes : List ℕ) → IsData bytes word → payload_of word ≡ Some bytes
 unfolding payload_of
 payload_of-again word bytes h =
     let all = (all_graphic bytes).1 h.1 in
     let some : leb 1 (length bytes) ≡ true = le-leb _ _ h.2 in
-    let few : leb (length bytes) MOST_BYTES ≡ true = le-leb _ _ h.3 in
+    let few : leb (length bytes) most_bytes ≡ true = le-leb _ _ h.3 in
     rw (h.0, all, some, few) refl

@@ -1,14 +1,13 @@
 -- How far a script is read, line by line.
-use Rattle.std.proofs.Common.{◌≡◌, ◌≢◌, ℕ, zero, suc, ◌+◌, ◌<◌, ◌≤◌, min, List, [], ◌∷◌, ◌++◌, length, take, arith, refl, rules, sym, subst, ap, ◌∙◌, append_assoc, add-one}
-use Rattle.std.proofs.lemmas.List.{append-nil, length-append, length-take, length-take-le, take_at, take_all}
+use Rattle.std.proofs.Common.{◌≡◌, ◌≢◌, ℕ, zero, suc, ◌+◌, ◌≤◌, List, [], ◌∷◌, ◌++◌, length, take, arith, refl, sym, subst, ap, ◌∙◌, append_assoc}
+use Rattle.std.proofs.lemmas.List.{append-nil, length-append, length-take, length-take-le, take_at}
 use Rattle.cfs_script.specs.declared.form.Form.{Form}
 use Rattle.cfs_script.specs.declared.line.Line.{Line}
-use Rattle.cfs_script.specs.declared.script.TheConstants.{MOST_LINES}
 use Rattle.cfs_script.specs.Grammar.{lines_of, IsForm, AreForms}
-use Rattle.cfs_script.specs.Session.{Allows, Keeps, IsSession}
+use Rattle.cfs_script.specs.Session.{Allows, Keeps}
 use Rattle.cfs_script.specs.declared.script_refusal.ScriptRefusal.{ScriptRefusal}
 use Rattle.cfs_script.specs.declared.script_refusal.ScriptRefusal.TheVariants as refusals
-use Rattle.cfs_script.specs.Script.{IsScript, IsNoScript, IsFront, IsFirstOutside, IsNext, OnLine}
+use Rattle.cfs_script.specs.Script.{most_lines, IsScript, IsNoScript, IsFront, IsFirstOutside, IsNext, OnLine}
 use Rattle.cfs_script.proofs.Forms.{IsForm-one}
 
 -- ---- lines and their texts
@@ -93,7 +92,7 @@ pub record Progress (bytes : List ℕ) (lines : List Line) (left : List (List �
   pub front : List (List ℕ)
   pub parts : lines_of bytes ≡ front ++ left
   pub forms : AreForms 1 lines front
-  pub few : length lines ≤ MOST_LINES
+  pub few : length lines ≤ most_lines
   pub order : Keeps [] lines
 
 pub progress_start : (bytes : List ℕ) → Progress bytes [] (lines_of bytes)
@@ -147,28 +146,28 @@ pub progress_outside : (bytes : List ℕ) (lines : List Line) (text : List ℕ) 
 progress_outside bytes lines text left p none = record {
   before = (lines, progress_front bytes lines (text ∷ left) p, refl);
   outside = λ others front long.
-    let counted = AreForms-length 1 lines p.front p.forms in
-    let split : lines_of bytes ≡ (p.front ++ text ∷ []) ++ left = p.parts ∙ sym (append_assoc p.front (text ∷ []) left) in
-    let taken : take (length others) (lines_of bytes) ≡ p.front ++ text ∷ [] =
+      let counted = AreForms-length 1 lines p.front p.forms in
+      let split : lines_of bytes ≡ (p.front ++ text ∷ []) ++ left = p.parts ∙ sym (append_assoc p.front (text ∷ []) left) in
+      let taken : take (length others) (lines_of bytes) ≡ p.front ++ text ∷ [] =
       rw split (take_at (p.front ++ text ∷ []) left (length others) (omega (arith, length-append p.front (text ∷ [])))) in
-    let last = AreForms-last 1 lines others p.front text p.forms (subst (λ (texts : List (List ℕ)). AreForms 1 others texts) taken front.forms) in
-    let order : Keeps [] (lines ++ last.0 ∷ []) = subst (λ (ls : List Line). Keeps [] ls) last.1 front.order in
-    let few : length others ≤ MOST_LINES = front.few in
-    none (make (length lines + 1) last.0.form) (record { number = refl; form = last.2; room = omega arith; allowed = Keeps-last [] lines last.0 order });
+      let last = AreForms-last 1 lines others p.front text p.forms (subst (λ (texts : List (List ℕ)). AreForms 1 others texts) taken front.forms) in
+      let order : Keeps [] (lines ++ last.0 ∷ []) = subst (λ (ls : List Line). Keeps [] ls) last.1 front.order in
+      let few : length others ≤ most_lines = front.few in
+      none (make (length lines + 1) last.0.form) (record { number = refl; form = last.2; room = omega arith; allowed = Keeps-last [] lines last.0 order });
 }
 
 pub progress_refused : (bytes : List ℕ) (lines : List Line) (text : List ℕ) (left : List (List ℕ)) → Progress bytes lines (text ∷ left) →
     ((line : Line) → IsNext lines text line → ⊥) → IsNoScript bytes
 progress_refused bytes lines text left p none =
     let there : length lines + 1 ≤ length (lines_of bytes) =
-      omega (arith, AreForms-length 1 lines p.front p.forms, ap length p.parts, length-append p.front (text ∷ left)) in
+    omega (arith, AreForms-length 1 lines p.front p.forms, ap length p.parts, length-append p.front (text ∷ left)) in
     refused_from_first bytes (length lines + 1) (progress_outside bytes lines text left p none) there
 
 pub progress_lone : (bytes : List ℕ) (lines : List Line) → Progress bytes lines [] → length lines ≡ 1 → IsFirstOutside bytes 2
 progress_lone bytes lines p one = record {
   before = (lines, progress_front bytes lines [] p, omega arith);
   outside = λ others front two.
-    omega (arith, AreForms-length 1 lines (lines_of bytes) (all_read bytes lines p), AreForms-length 1 others _ front.forms, length-take (length others) (lines_of bytes));
+      omega (arith, AreForms-length 1 lines (lines_of bytes) (all_read bytes lines p), AreForms-length 1 others _ front.forms, length-take (length others) (lines_of bytes));
 }
 
 pub progress_only : (bytes : List ℕ) (lines : List Line) → Progress bytes lines [] → (others : List Line) → IsScript bytes others → others ≡ lines

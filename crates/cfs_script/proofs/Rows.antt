@@ -1,12 +1,12 @@
 -- What a row reads has the items that its form has, and is read again.
-use Rattle.std.proofs.Common.{◌≡◌, ℕ, ◌+◌, Bool, true, false, cond, List, [], ◌∷◌, ◌++◌, length, Option, Some, None, arith, refl, rules, sym, subst, ap, ◌∙◌, append_assoc}
+use Rattle.std.proofs.Common.{◌≡◌, ℕ, List, [], ◌∷◌, ◌++◌, Option, Some, None, refl, rules, subst, ap, append_assoc}
 use Rattle.std.specs.Str.{bytes_eq}
 use Rattle.std.proofs.lemmas.Option.{cond_some, none-some, same_Some}
 use Rattle.std.proofs.lemmas.List.{append-nil}
 use Rattle.std.proofs.lemmas.Slice.Eq.{bytes_eq-Decides}
 use Rattle.cfs_script.specs.declared.form.Form.{Form}
 use Rattle.cfs_script.specs.Grammar.{Item, Key, Number, Data, IsWord, AreWords, items_of}
-use Rattle.cfs_script.specs.Reading.{◌>>=◌, number_of, payload_of, word_at, key_at, number_at, payload_at, ended, Row, Never, End, KeyThen, NumberThen, DataThen, read}
+use Rattle.cfs_script.specs.Reading.{◌>>=◌, number_of, payload_of, key_at, number_at, payload_at, Row, Never, End, KeyThen, NumberThen, DataThen, read}
 use Rattle.cfs_script.proofs.Numbers.{number_of-takes, number_of-again, payload_of-takes, payload_of-again}
 
 -- ---- one word
@@ -15,7 +15,7 @@ use Rattle.cfs_script.proofs.Numbers.{number_of-takes, number_of-again, payload_
 pub record Took (words : List (List ℕ)) (item : Item) (rest : List (List ℕ)) : Type 0 where
   pub word : List ℕ
   pub parts : words ≡ word ∷ rest
-  pub spelt : IsWord item word
+  pub spelled : IsWord item word
 
 pub bind_some : {A B : Type 0} (o : Option A) (f : A → Option B) (y : B) → (o >>= f) ≡ Some y → (x : A) × (o ≡ Some x) × (f x ≡ Some y)
 bind_some None f y e = absurd (none-some _ e)
@@ -27,7 +27,7 @@ key_at-takes text [] r e = absurd (none-some _ e)
 key_at-takes text (word ∷ words) r e =
     let found = cond_some (bytes_eq word text) (text, words) r e in
     subst (λ (p : List ℕ × List (List ℕ)). Took (word ∷ words) (Key text) p.1) found.1
-      (record { word = word; parts = refl; spelt = (bytes_eq-Decides word text).0 found.0 })
+    (record { word = word; parts = refl; spelled = (bytes_eq-Decides word text).0 found.0 })
 
 key_at-again : (text word : List ℕ) (words : List (List ℕ)) → IsWord (Key text) word → key_at text (word ∷ words) ≡ Some (text, words)
 unfolding key_at
@@ -39,7 +39,7 @@ number_at-takes least most [] r e = absurd (none-some _ e)
 number_at-takes least most (word ∷ words) r e =
     let found = bind_some (number_of least most word) (λ n. Some (n, words)) r e in
     subst (λ (p : ℕ × List (List ℕ)). Took (word ∷ words) (Number least most p.0) p.1) (same_Some _ _ found.2)
-      (record { word = word; parts = refl; spelt = number_of-takes least most word found.0 found.1 })
+    (record { word = word; parts = refl; spelled = number_of-takes least most word found.0 found.1 })
 
 number_at-again : (least most n : ℕ) (word : List ℕ) (words : List (List ℕ)) → IsWord (Number least most n) word → number_at least most (word ∷ words) ≡ Some (n, words)
 unfolding number_at
@@ -51,7 +51,7 @@ payload_at-takes [] r e = absurd (none-some _ e)
 payload_at-takes (word ∷ words) r e =
     let found = bind_some (payload_of word) (λ bytes. Some (bytes, words)) r e in
     subst (λ (p : List ℕ × List (List ℕ)). Took (word ∷ words) (Data p.0) p.1) (same_Some _ _ found.2)
-      (record { word = word; parts = refl; spelt = payload_of-takes word found.0 found.1 })
+    (record { word = word; parts = refl; spelled = payload_of-takes word found.0 found.1 })
 
 payload_at-again : (bytes word : List ℕ) (words : List (List ℕ)) → IsWord (Data bytes) word → payload_at (word ∷ words) ≡ Some (bytes, words)
 unfolding payload_at
@@ -89,17 +89,17 @@ read-takes (KeyThen text row) items before words form s h e =
     let found = bind_some (key_at text words) (λ key. read row key.1) form e in
     let took = key_at-takes text words found.0 found.1 in
     subst (λ (ws : List (List ℕ)). AreWords (items_of form) ws) (push_front before words _ _ took)
-      (read-takes row (items ++ Key text ∷ []) (before ++ took.word ∷ []) found.0.1 form s (AreWords-push items before _ _ h took.spelt) found.2)
+    (read-takes row (items ++ Key text ∷ []) (before ++ took.word ∷ []) found.0.1 form s (AreWords-push items before _ _ h took.spelled) found.2)
 read-takes (NumberThen least most row) items before words form s h e =
     let found = bind_some (number_at least most words) (λ n. read (row n.0) n.1) form e in
     let took = number_at-takes least most words found.0 found.1 in
     subst (λ (ws : List (List ℕ)). AreWords (items_of form) ws) (push_front before words _ _ took)
-      (read-takes (row found.0.0) (items ++ Number least most found.0.0 ∷ []) (before ++ took.word ∷ []) found.0.1 form (s found.0.0) (AreWords-push items before _ _ h took.spelt) found.2)
+    (read-takes (row found.0.0) (items ++ Number least most found.0.0 ∷ []) (before ++ took.word ∷ []) found.0.1 form (s found.0.0) (AreWords-push items before _ _ h took.spelled) found.2)
 read-takes (DataThen row) items before words form s h e =
     let found = bind_some (payload_at words) (λ bytes. read (row bytes.0) bytes.1) form e in
     let took = payload_at-takes words found.0 found.1 in
     subst (λ (ws : List (List ℕ)). AreWords (items_of form) ws) (push_front before words _ _ took)
-      (read-takes (row found.0.0) (items ++ Data found.0.0 ∷ []) (before ++ took.word ∷ []) found.0.1 form (s found.0.0) (AreWords-push items before _ _ h took.spelt) found.2)
+    (read-takes (row found.0.0) (items ++ Data found.0.0 ∷ []) (before ++ took.word ∷ []) found.0.1 form (s found.0.0) (AreWords-push items before _ _ h took.spelled) found.2)
 
 -- the row has these items, with the form at its end
 abbrev pub Leads : Row → List Item → Form → Type 0

@@ -1,13 +1,12 @@
 -- What a script of this grammar looks like, for the crates above.
-use Rattle.std.proofs.Common.{◌≡◌, ◌≢◌, ℕ, zero, suc, ◌+◌, ◌<◌, ◌≤◌, ◌⊎◌, inl, inr, List, [], ◌∷◌, ◌++◌, length, arith, refl, sym, ap, subst, ◌∙◌, Option, Some, None}
+use Rattle.std.proofs.Common.{◌≡◌, ◌≢◌, ℕ, zero, suc, ◌+◌, ◌<◌, ◌≤◌, ◌⊎◌, inl, inr, List, [], ◌∷◌, ◌++◌, length, arith, refl, subst, Some}
 use Rattle.std.specs.List.{slice_get}
 use Rattle.std.proofs.lemmas.List.{length-append}
 use Rattle.std.proofs.lemmas.Option.{none-some, same_Some}
-use Rattle.cfs_script.specs.declared.form.TheConstants.{CALLERS, LAST_OFFSET, MOST_BYTES}
 use Rattle.cfs_script.specs.declared.form.Form.{Form}
 use Rattle.cfs_script.specs.declared.form.Form.TheVariants.{Caller, Open, Pwrite, Pread}
 use Rattle.cfs_script.specs.declared.line.Line.{Line}
-use Rattle.cfs_script.specs.Grammar.{Item, Key, Number, Data, IsWord, AreWords, items_of, IsForm, AreForms, words_of, lines_of}
+use Rattle.cfs_script.specs.Grammar.{last_offset, most_bytes, Item, Number, Data, IsWord, AreWords, items_of, IsForm, AreForms, words_of, lines_of}
 use Rattle.cfs_script.specs.Session.{Allows, Keeps}
 use Rattle.cfs_script.specs.Script.{IsScript}
 use Rattle.cfs_script.proofs.Progress.{Line-one}
@@ -16,8 +15,8 @@ use Rattle.cfs_script.proofs.Progress.{Line-one}
 abbrev pub IsTransfer : Form → Type 0
 IsTransfer (Caller c uid gid) = ⊥
 IsTransfer (Open c) = ⊥
-IsTransfer (Pwrite c fd offset bytes) = (c ≡ 1) × (fd ≡ 0) × (offset ≤ LAST_OFFSET) × (0 < length bytes) × (length bytes ≤ MOST_BYTES)
-IsTransfer (Pread c fd offset count) = (c ≡ 1) × (fd ≡ 0) × (offset ≤ LAST_OFFSET) × (count ≤ MOST_BYTES)
+IsTransfer (Pwrite c fd offset bytes) = (c ≡ 1) × (fd ≡ 0) × (offset ≤ last_offset) × (0 < length bytes) × (length bytes ≤ most_bytes)
+IsTransfer (Pread c fd offset count) = (c ≡ 1) × (fd ≡ 0) × (offset ≤ last_offset) × (count ≤ most_bytes)
 
 -- transfers, numbered from here on
 abbrev pub AreTransfers : ℕ → List Line → Type 0
@@ -43,13 +42,13 @@ transfer_within before (Caller c uid gid) text late a h = let first : length bef
 transfer_within before (Open c) text late a h = let second : length before ≡ 1 = a.0 in absurd (omega arith)
 transfer_within before (Pwrite c fd offset bytes) text late a h =
     let items = items_of (Pwrite c fd offset bytes) in
-    let place = spelled_at items (words_of text) h 3 (Number 0 LAST_OFFSET offset) refl in
+    let place = spelled_at items (words_of text) h 3 (Number 0 last_offset offset) refl in
     let payload = spelled_at items (words_of text) h 4 (Data bytes) refl in
     (a.1, a.2, place.1.2, payload.1.2, payload.1.3)
 transfer_within before (Pread c fd offset count) text late a h =
     let items = items_of (Pread c fd offset count) in
-    let place = spelled_at items (words_of text) h 3 (Number 0 LAST_OFFSET offset) refl in
-    let most = spelled_at items (words_of text) h 4 (Number 0 MOST_BYTES count) refl in
+    let place = spelled_at items (words_of text) h 3 (Number 0 last_offset offset) refl in
+    let most = spelled_at items (words_of text) h 4 (Number 0 most_bytes count) refl in
     (a.1, a.2, place.1.2, most.1.2)
 
 transfers_from : (n : ℕ) (before lines : List Line) (texts : List (List ℕ)) → 2 ≤ length before → Keeps before lines → AreForms n lines texts → AreTransfers n lines

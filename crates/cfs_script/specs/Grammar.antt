@@ -2,12 +2,32 @@
 use Rattle.std.specs.Prelude.{◌≡◌, ℕ, ◌+◌, ◌<◌, ◌≤◌, ◌==◌, List, [], ◌∷◌, ◌++◌, length, codes, All}
 use Rattle.std.specs.List.{slice_split}
 use Rattle.std.specs.Fmt.{decimal}
-use Rattle.cfs_script.specs.declared.form.TheConstants.{CALLERS, LARGEST_NUMBER, LAST_OFFSET, MOST_BYTES}
 use Rattle.cfs_script.specs.declared.form.Form.{Form}
 use Rattle.cfs_script.specs.declared.form.Form.TheVariants.{Caller, Open, Pwrite, Pread}
 use Rattle.cfs_script.specs.declared.line.Line.{Line}
 use Rattle.cfs_script.specs.declared.verb.Verb.{Verb}
 use Rattle.cfs_script.specs.declared.verb.Verb.TheVariants as verbs
+
+-- the largest number that a script may spell
+abbrev pub largest_number : ℕ
+largest_number = 4294967295
+
+-- the largest number of a caller
+abbrev pub callers : ℕ
+callers = 16
+
+-- where the last transfer may begin, and the most bytes that one moves
+abbrev pub last_offset : ℕ
+last_offset = 1044480
+
+abbrev pub most_bytes : ℕ
+most_bytes = 4096
+
+-- ---- lines and words
+
+-- the parts between the separators; bytes without one are one part
+abbrev pub parts_of : ℕ → List ℕ → List (List ℕ)
+parts_of separator bytes = slice_split (λ b. b == separator) bytes
 
 -- the parts, without an empty one at their end
 abbrev pub without_empty_end : List (List ℕ) → List (List ℕ)
@@ -17,11 +37,13 @@ without_empty_end (part ∷ parts) = part ∷ without_empty_end parts
 
 -- the lines: each is ended by the byte 10, which the last may lack
 abbrev pub lines_of : List ℕ → List (List ℕ)
-lines_of bytes = without_empty_end (slice_split (λ b. b == 10) bytes)
+lines_of bytes = without_empty_end (parts_of 10 bytes)
 
 -- the words of a line: one space stands between two words
 abbrev pub words_of : List ℕ → List (List ℕ)
-words_of line = slice_split (λ b. b == 32) line
+words_of line = parts_of 32 line
+
+-- ---- what a word spells
 
 -- the word of a verb
 abbrev pub word_of : Verb → List ℕ
@@ -45,13 +67,15 @@ IsGraphic b = (33 ≤ b) × (b ≤ 126)
 
 -- the bytes of a transfer, as text
 abbrev pub IsData : List ℕ → List ℕ → Type 0
-IsData bytes word = (word ≡ codes "t:" ++ bytes) × All IsGraphic bytes × (0 < length bytes) × (length bytes ≤ MOST_BYTES)
+IsData bytes word = (word ≡ codes "t:" ++ bytes) × All IsGraphic bytes × (0 < length bytes) × (length bytes ≤ most_bytes)
 
 -- the word spells the item; a number is decimal, without leading zeros
 abbrev pub IsWord : Item → List ℕ → Type 0
 IsWord (Key text) word = word ≡ text
-IsWord (Number least most n) word = (word ≡ decimal n) × (least ≤ n) × (n ≤ most) × (n ≤ LARGEST_NUMBER)
+IsWord (Number least most n) word = (word ≡ decimal n) × (least ≤ n) × (n ≤ most) × (n ≤ largest_number)
 IsWord (Data bytes) word = IsData bytes word
+
+-- ---- what a line spells
 
 -- word by word
 abbrev pub AreWords : List Item → List (List ℕ) → Type 0
@@ -62,10 +86,10 @@ AreWords (item ∷ items) (word ∷ words) = IsWord item word × AreWords items 
 
 -- the items of a form, one line a form
 abbrev pub items_of : Form → List Item
-items_of (Caller c uid gid) = Key (word_of verbs.Caller) ∷ Number 1 CALLERS c ∷ Number 0 LARGEST_NUMBER uid ∷ Number 0 LARGEST_NUMBER gid ∷ []
-items_of (Open c) = Number 1 CALLERS c ∷ Key (word_of verbs.Open) ∷ Key (codes "/a") ∷ Key (codes "rwc") ∷ Key (codes "0644") ∷ []
-items_of (Pwrite c fd offset bytes) = Number 1 CALLERS c ∷ Key (word_of verbs.Pwrite) ∷ Number 0 LARGEST_NUMBER fd ∷ Number 0 LAST_OFFSET offset ∷ Data bytes ∷ []
-items_of (Pread c fd offset count) = Number 1 CALLERS c ∷ Key (word_of verbs.Pread) ∷ Number 0 LARGEST_NUMBER fd ∷ Number 0 LAST_OFFSET offset ∷ Number 0 MOST_BYTES count ∷ []
+items_of (Caller c uid gid) = Key (word_of verbs.Caller) ∷ Number 1 callers c ∷ Number 0 largest_number uid ∷ Number 0 largest_number gid ∷ []
+items_of (Open c) = Number 1 callers c ∷ Key (word_of verbs.Open) ∷ Key (codes "/a") ∷ Key (codes "rwc") ∷ Key (codes "0644") ∷ []
+items_of (Pwrite c fd offset bytes) = Number 1 callers c ∷ Key (word_of verbs.Pwrite) ∷ Number 0 largest_number fd ∷ Number 0 last_offset offset ∷ Data bytes ∷ []
+items_of (Pread c fd offset count) = Number 1 callers c ∷ Key (word_of verbs.Pread) ∷ Number 0 largest_number fd ∷ Number 0 last_offset offset ∷ Number 0 most_bytes count ∷ []
 
 -- the line spells the form
 abbrev pub IsForm : Form → List ℕ → Type 0

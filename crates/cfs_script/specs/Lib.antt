@@ -2,4 +2,3 @@ pub mod Grammar
 pub mod Session
 pub mod Script
 pub mod Reading
-pub mod Left

@@ -1,17 +1,16 @@
 -- Reading a line from left to right, word by word, by the row of its form.
-use Rattle.std.specs.Prelude.{◌≡◌, ℕ, ◌-◌, List, [], ◌∷◌, length, drop, codes, Option, Some, None, Result, Ok, Err, option_and_then, Bool, true, false, ◌&&◌, ◌||◌, ◌==◌, nat_lt, nat_le, not, if◌then◌else◌, nat_eq}
-use Rattle.std.specs.List.{list_all, starts_with}
+use Rattle.std.specs.Prelude.{◌≡◌, ℕ, List, [], ◌∷◌, length, take, drop, codes, Option, Some, None, Result, Ok, Err, option_and_then, Bool, false, ◌&&◌, ◌||◌, ◌==◌, nat_lt, nat_le, not, if◌then◌else◌}
+use Rattle.std.specs.List.{list_all}
 use Rattle.std.specs.Str.{bytes_eq}
 use Rattle.std.specs.Char.{is_ascii_digit}
 use Rattle.std.specs.Str.Parse.{digits_value}
-use Rattle.cfs_script.specs.declared.form.TheConstants.{CALLERS, LARGEST_NUMBER, LAST_OFFSET, MOST_BYTES}
 use Rattle.cfs_script.specs.declared.form.Form.{Form}
 use Rattle.cfs_script.specs.declared.form.Form.TheVariants.{Caller, Open, Pwrite, Pread}
 use Rattle.cfs_script.specs.declared.verb.Verb.{Verb}
 use Rattle.cfs_script.specs.declared.verb.Verb.TheVariants as verbs
 use Rattle.cfs_script.specs.declared.line_refusal.LineRefusal.{LineRefusal}
 use Rattle.cfs_script.specs.declared.line_refusal.LineRefusal.TheVariants.{Outside, NoMemory}
-use Rattle.cfs_script.specs.Grammar.{word_of, words_of}
+use Rattle.cfs_script.specs.Grammar.{callers, largest_number, last_offset, most_bytes, word_of, words_of}
 
 infixl 10 ◌>>=◌
 abbrev pub ◌>>=◌ : {A B : Type 0} → Option A → (A → Option B) → Option B
@@ -29,6 +28,13 @@ Reads view (Ok x) rest read = read ≡ Some (view x, rest)
 Reads view (Err Outside) rest read = read ≡ None
 Reads view (Err NoMemory) rest read = Unit {0}
 
+-- ---- words that are left
+
+-- the words of the bytes that are left, or none behind the last word
+abbrev pub words_left : Option (List ℕ) → List (List ℕ)
+words_left None = []
+words_left (Some bytes) = words_of bytes
+
 -- ---- one word
 
 -- decimal digits, without a leading zero
@@ -40,7 +46,7 @@ is_canonical (first ∷ rest) = list_all is_ascii_digit (first ∷ rest) && (not
 unfoldable pub number_of : ℕ → ℕ → List ℕ → Option ℕ
 number_of least most word =
     let value = digits_value 10 word in
-    if is_canonical word && (nat_le value LARGEST_NUMBER && (nat_le least value && nat_le value most)) then Some value else None
+    if is_canonical word && (nat_le value largest_number && (nat_le least value && nat_le value most)) then Some value else None
 
 abbrev pub is_graphic : ℕ → Bool
 is_graphic b = nat_le 33 b && nat_le b 126
@@ -49,7 +55,7 @@ is_graphic b = nat_le 33 b && nat_le b 126
 unfoldable pub payload_of : List ℕ → Option (List ℕ)
 payload_of word =
     let bytes = drop 2 word in
-    if starts_with nat_eq word (codes "t:") && (list_all is_graphic bytes && (nat_lt 0 (length bytes) && nat_le (length bytes) MOST_BYTES)) then Some bytes else None
+    if bytes_eq (take 2 word) (codes "t:") && (list_all is_graphic bytes && (nat_lt 0 (length bytes) && nat_le (length bytes) most_bytes)) then Some bytes else None
 
 -- ---- the next word of a line, and the words after it
 
@@ -98,7 +104,7 @@ read (DataThen row) words = payload_at words >>= (λ bytes. read (row bytes.0) b
 
 -- behind a verb that begins a line
 abbrev pub order_row : Verb → Row
-order_row verbs.Caller = NumberThen 1 CALLERS (λ c. NumberThen 0 LARGEST_NUMBER (λ uid. NumberThen 0 LARGEST_NUMBER (λ gid. End (Caller c uid gid))))
+order_row verbs.Caller = NumberThen 1 callers (λ c. NumberThen 0 largest_number (λ uid. NumberThen 0 largest_number (λ gid. End (Caller c uid gid))))
 order_row verbs.Open = Never
 order_row verbs.Pwrite = Never
 order_row verbs.Pread = Never
@@ -107,8 +113,8 @@ order_row verbs.Pread = Never
 abbrev pub request_row : ℕ → Verb → Row
 request_row c verbs.Caller = Never
 request_row c verbs.Open = KeyThen (codes "/a") (KeyThen (codes "rwc") (KeyThen (codes "0644") (End (Open c))))
-request_row c verbs.Pwrite = NumberThen 0 LARGEST_NUMBER (λ fd. NumberThen 0 LAST_OFFSET (λ offset. DataThen (λ bytes. End (Pwrite c fd offset bytes))))
-request_row c verbs.Pread = NumberThen 0 LARGEST_NUMBER (λ fd. NumberThen 0 LAST_OFFSET (λ offset. NumberThen 0 MOST_BYTES (λ count. End (Pread c fd offset count))))
+request_row c verbs.Pwrite = NumberThen 0 largest_number (λ fd. NumberThen 0 last_offset (λ offset. DataThen (λ bytes. End (Pwrite c fd offset bytes))))
+request_row c verbs.Pread = NumberThen 0 largest_number (λ fd. NumberThen 0 last_offset (λ offset. NumberThen 0 most_bytes (λ count. End (Pread c fd offset count))))
 
 -- ---- the verb
 
@@ -119,11 +125,13 @@ named (verb ∷ verbs) word = if bytes_eq word (word_of verb) then Some verb els
 -- the verbs that begin a line, and those that follow a caller's number, in groups of at most eight
 abbrev pub orders : List Verb
 orders = verbs.Caller ∷ []
+
 abbrev pub requests : List Verb
 requests = verbs.Open ∷ verbs.Pwrite ∷ verbs.Pread ∷ []
 
 unfoldable pub order_of : List ℕ → Option Verb
 order_of word = named orders word
+
 unfoldable pub request_of : List ℕ → Option Verb
 request_of word = named requests word
 
@@ -147,4 +155,4 @@ after_first (Some c) word words = after_caller c words
 unfoldable pub form_of : List (List ℕ) → Option Form
 form_of words = do
   word ← word_at words
-  after_first (number_of 1 CALLERS word.0) word.0 word.1
+  after_first (number_of 1 callers word.0) word.0 word.1

@@ -1,16 +1,19 @@
 -- Which bytes are a script of which lines, and which line is the first outside.
 use Rattle.std.specs.Prelude.{◌≡◌, ℕ, ◌+◌, ◌<◌, ◌≤◌, List, [], length, take}
 use Rattle.cfs_script.specs.declared.line.Line.{Line}
-use Rattle.cfs_script.specs.declared.script.TheConstants.{MOST_LINES}
 use Rattle.cfs_script.specs.declared.script_refusal.ScriptRefusal.{ScriptRefusal}
 use Rattle.cfs_script.specs.declared.script_refusal.ScriptRefusal.TheVariants as refusals
 use Rattle.cfs_script.specs.Grammar.{lines_of, IsForm, AreForms}
 use Rattle.cfs_script.specs.Session.{Allows, Keeps, IsSession}
 
+-- the most lines of a script
+abbrev pub most_lines : ℕ
+most_lines = 65536
+
 -- the bytes are the script of these lines
 pub record IsScript (bytes : List ℕ) (lines : List Line) : Type 0 where
   pub forms : AreForms 1 lines (lines_of bytes)
-  pub few : length lines ≤ MOST_LINES
+  pub few : length lines ≤ most_lines
   pub session : IsSession lines
 
 -- the bytes are no script
@@ -20,7 +23,7 @@ IsNoScript bytes = (lines : List Line) → IsScript bytes lines → ⊥
 -- the bytes begin with these lines, and a script may begin so
 pub record IsFront (bytes : List ℕ) (lines : List Line) : Type 0 where
   pub forms : AreForms 1 lines (take (length lines) (lines_of bytes))
-  pub few : length lines ≤ MOST_LINES
+  pub few : length lines ≤ most_lines
   pub order : Keeps [] lines
 
 -- The lines before this number are a front, and with the line of this number nothing is: it is no
@@ -38,5 +41,5 @@ OnLine refusals.NoMemory P = Unit {0}
 pub record IsNext (before : List Line) (text : List ℕ) (line : Line) : Type 0 where
   pub number : line.number ≡ length before + 1
   pub form : IsForm line.form text
-  pub room : length before < MOST_LINES
+  pub room : length before < most_lines
   pub allowed : Allows before line.form

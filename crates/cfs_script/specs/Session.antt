@@ -1,5 +1,5 @@
 -- The rule of a whole script: the caller, then the open, then transfers over the one descriptor.
-use Rattle.std.specs.Prelude.{◌≡◌, ◌≢◌, ℕ, ◌≤◌, List, [], ◌∷◌, ◌++◌, length}
+use Rattle.std.specs.Prelude.{◌≡◌, ◌≢◌, ◌≤◌, List, [], ◌∷◌, ◌++◌, length}
 use Rattle.cfs_script.specs.declared.form.Form.{Form}
 use Rattle.cfs_script.specs.declared.form.Form.TheVariants.{Caller, Open, Pwrite, Pread}
 use Rattle.cfs_script.specs.declared.line.Line.{Line}

@@ -1,13 +1,13 @@
 //! Cutting bytes at a separator.
 
 ghost use Rattle.std.specs.Prelude.{◌≡◌, ◌==◌, [], ◌∷◌, MatchOption, position};
-ghost use Rattle.std.specs.List.{slice_split};
+ghost use Rattle.cfs_script.specs.Grammar.{parts_of};
 
 /// The part before the first separator, and the bytes behind it where there is one.
 pub(crate) fn cut(bytes: &[u8], separator: u8) -> (&[u8], Option<&[u8]>)
     ensures { MatchOption result.1
-        (slice_split (λ b. b == separator) bytes.now ≡ result.0.now ∷ [])
-        (λ rest. slice_split (λ b. b == separator) bytes.now ≡ result.0.now ∷ slice_split (λ b. b == separator) rest.now) }
+        (parts_of separator bytes.now ≡ result.0.now ∷ [])
+        (λ rest. parts_of separator bytes.now ≡ result.0.now ∷ parts_of separator rest.now) }
 {
     match find_separator(bytes, separator) {
         Some(at) => (&bytes[..at], Some(&bytes[at + 1..])),

@@ -18,10 +18,16 @@ pub const MOST_BYTES: u64 = 4096;
 #[derive(Debug, Drop, Clone, PartialEq, Eq)]
 pub enum Form {
     /// `caller C UID GID`: introduces a caller, with its user and group number.
-    Caller { caller: u64, uid: u64, gid: u64 },
+    Caller {
+        caller: u64,
+        uid: u64,
+        gid: u64,
+    },
     /// `C open /a rwc 0644`: opens the file `/a` for reading and writing, and makes it where it is
     /// missing, with mode 0644 (POSIX.1-2017, open()).
-    Open { caller: u64 },
+    Open {
+        caller: u64,
+    },
     /// `C pwrite FD OFF DATA`: writes the bytes at the offset (POSIX.1-2017, pwrite()).
     Pwrite {
         caller: u64,

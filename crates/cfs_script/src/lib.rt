@@ -24,3 +24,6 @@ pub use line::Line;
 pub use play::read_play;
 pub use script::{MOST_LINES, Script};
 pub use script_refusal::ScriptRefusal;
+
+#[cfg(test)]
+mod tests;

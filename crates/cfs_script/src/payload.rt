@@ -12,10 +12,7 @@ use crate::form::MOST_BYTES;
 pub(crate) fn payload_in(word: &[u8]) -> Option<&[u8]>
     ensures { option_copied result ≡ payload_of word.now }
 {
-    if !word.starts_with(b"t:".as_slice()) {
-        return None;
-    }
-    let bytes = &word[2..];
+    let bytes = word.strip_prefix(b"t:".as_slice())?;
     if are_graphic(bytes) && !bytes.is_empty() && bytes.len() as u64 <= MOST_BYTES {
         Some(bytes)
     } else {

@@ -12,10 +12,13 @@ use crate::texts::Texts;
 use crate::{Line, Script, ScriptRefusal};
 use std::alloc::Global;
 
-/// The script that the bytes spell. Costs the bytes once, and the memory of the lines.
+/// The script that the bytes spell. Takes time linear in the bytes, and the memory of the lines.
+///
+/// `Line` comes only where the bytes are no script, with the number of the first line that no
+/// script has in its place: it spells no form, may not ask for that there, is line 65,537, or is
+/// missing. Today only the open behind a lone caller line can be missing, as line 2.
 pub fn read_play(alloc: Global, bytes: &[u8]) -> Result<Script, ScriptRefusal>
     ensures found { IfOk result (λ script. IsScript bytes.now script) }
-    // The bytes spell no other lines.
     ensures only { IfOk result (λ script. (lines : List Line) → IsScript bytes.now lines → lines ≡ script) }
     ensures refused { IfErr result (λ refusal. OnLine refusal (λ _. IsNoScript bytes.now)) }
     ensures first { IfErr result (λ refusal. OnLine refusal (IsFirstOutside bytes.now)) }
@@ -25,6 +28,7 @@ pub fn read_play(alloc: Global, bytes: &[u8]) -> Result<Script, ScriptRefusal>
         let line = next_line(alloc, &lines, text)?;
         lines.push(line)?;
     }
+    // A lone caller line lacks its open.
     if lines.len() == 1 {
         return Err(ScriptRefusal::Line(2));
     }

@@ -75,7 +75,12 @@ fn pwrite(alloc: Global, caller: u64, words: &mut Words<'_>) -> Result<Form, Lin
     let fd = words.number(0, LARGEST_NUMBER)?;
     let offset = words.number(0, LAST_OFFSET)?;
     let bytes = words.payload(alloc)?;
-    words.end(Form::Pwrite { caller, fd, offset, bytes })
+    words.end(Form::Pwrite {
+        caller,
+        fd,
+        offset,
+        bytes,
+    })
 }
 
 fn pread(caller: u64, words: &mut Words<'_>) -> Result<Form, LineRefusal>
@@ -84,5 +89,10 @@ fn pread(caller: u64, words: &mut Words<'_>) -> Result<Form, LineRefusal>
     let fd = words.number(0, LARGEST_NUMBER)?;
     let offset = words.number(0, LAST_OFFSET)?;
     let count = words.number(0, MOST_BYTES)?;
-    words.end(Form::Pread { caller, fd, offset, count })
+    words.end(Form::Pread {
+        caller,
+        fd,
+        offset,
+        count,
+    })
 }

@@ -4,11 +4,11 @@ ghost use Rattle.std.specs.Prelude.{◌≡◌};
 ghost use Rattle.cfs_script.specs.Grammar.{words_of};
 ghost use Rattle.cfs_script.specs.Reading.{Gives, Reads, word_at, key_at, number_at, payload_at, ended};
 
+use crate::Form;
 use crate::cut::cut;
 use crate::line_refusal::LineRefusal;
 use crate::number::number_in;
 use crate::payload::payload_in;
-use crate::Form;
 use cfs_file::Bytes;
 use std::alloc::Global;
 use std::marker::Model;
@@ -22,7 +22,7 @@ pub(crate) struct Words<'a> {
 impl<'a> Model for Words<'a> {
     ghost use Rattle.std.specs.Prelude.{List, ℕ};
     ghost use Rattle.std.specs.Option.{option_copied};
-    ghost use Rattle.cfs_script.specs.Left.{words_left};
+    ghost use Rattle.cfs_script.specs.Reading.{words_left};
 
     ghost Value = { List (List ℕ) };
 

@@ -1,4 +1,4 @@
-use Rattle.std.proofs.Common.{◌≡◌, ◌<◌, refl, sym, ◌∙◌, arith, length, true, false}
+use Rattle.std.proofs.Common.{◌≡◌, refl, sym, ◌∙◌, arith, true, false}
 use Rattle.cfs_script.proofs.Forms.{form_of-takes, no_next, not_allowed}
 use Rattle.cfs_script.specs.Grammar.{words_of}
 use Rattle.cfs_script.proofs.play.next_line.Goals as goal
@@ -9,7 +9,7 @@ returns-in-Err-Outside-clause-refused c = no_next _ _ (rw c.in-Err-Outside.field
 pub returns-then-not-allows-clause-refused : goal.returns-then-not-allows-clause-refused
 returns-then-not-allows-clause-refused c =
     not_allowed c.args.before.now c.args.text.now c.in-Ok.form c.in-Ok.ensures
-      (λ allowed. let both : false ≡ true = sym c.if-not-allows.true ∙ c.allows.ensures.1 allowed in absurd cc)
+    (λ allowed. let both : false ≡ true = sym c.if-not-allows.true ∙ c.allows.ensures.1 allowed in absurd cc)
 
 pub returns-clause-found : goal.returns-clause-found
 returns-clause-found c = record {

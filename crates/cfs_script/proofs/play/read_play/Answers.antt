@@ -1,4 +1,4 @@
-use Rattle.std.proofs.Common.{◌≡◌, arith, length}
+use Rattle.std.proofs.Common.{arith}
 use Rattle.std.proofs.lemmas.Result.{err_from_is_err_and}
 use Rattle.cfs_script.proofs.Progress.{progress_step, progress_end, progress_lone, progress_lone-refused, progress_only, next_refused, next_first}
 use Rattle.cfs_script.proofs.play.read_play.Goals as goal
