@@ -1,5 +1,5 @@
 -- What the objects in memory hold, and which of their calls are to fail.
-use Rattle.std.specs.Prelude.{◌≡◌, ℕ, List, drop}
+use Rattle.std.specs.Prelude.{ℕ, List, drop}
 use Rattle.cfs_io.specs.declared.mem_source.MemSource.{MemSource}
 use Rattle.cfs_io.specs.declared.mem_sink.MemSink.{MemSink}
 use Rattle.cfs_io.specs.declared.mem_shelf.MemShelf.{MemShelf}
@@ -12,6 +12,10 @@ source_left source = drop source.at source.bytes.items
 -- the numbers of the reads that are to fail
 abbrev pub failing_reads : MemSource → List ℕ
 failing_reads source = source.calls.failing.items
+
+-- how many reads were made
+abbrev pub source_reads : MemSource → ℕ
+source_reads source = source.calls.made
 
 -- how many bytes a read gives at most
 abbrev pub source_chunk : MemSource → ℕ

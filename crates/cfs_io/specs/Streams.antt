@@ -23,3 +23,7 @@ MoreCame old new n = (bytes : List ℕ) × (n < length bytes) × Consumes old ne
 -- at most n bytes came
 abbrev pub AtMostCame : Option (List ℕ) → Option (List ℕ) → ℕ → Type 0
 AtMostCame old new n = (bytes : List ℕ) × (length bytes ≤ n) × Consumes old new bytes
+
+-- some bytes came
+abbrev pub SomeCame : Option (List ℕ) → Option (List ℕ) → Type 0
+SomeCame old new = (bytes : List ℕ) × Consumes old new bytes

@@ -85,14 +85,17 @@ impl Shelf for MemShelf {
         ensures found { IfOk result (λ bytes. Finds (Some (shelf_files self.old)) name.now bytes) }
         ensures absent { IsErrOf result LoadRefusal.Absent → Misses (Some (shelf_files self.old)) name.now }
         ensures same { Some (shelf_files self.new) ≡ Some (shelf_files self.old) }
-        ensures failed { IsErrOf result LoadRefusal.Failed → Rose self.old.load_faults self.new.load_faults }
+        ensures failed { IsErrOf result LoadRefusal.Failed →
+            Rose self.old.load_faults self.new.load_faults }
         ensures later { self.old.load_faults ≤ self.new.load_faults }
         ensures kept { OnOk result (self.new.load_faults ≡ self.old.load_faults) }
-        ensures kept_absent { IsErrOf result LoadRefusal.Absent → self.new.load_faults ≡ self.old.load_faults }
+        ensures kept_absent { IsErrOf result LoadRefusal.Absent →
+            self.new.load_faults ≡ self.old.load_faults }
         ensures saves { self.new.save_faults ≡ self.old.save_faults }
 
         // Beyond the trait: which loads fail.
-        ensures fails { IsErrOf result LoadRefusal.Failed ↔ Contains (failing_calls self.old) (shelf_calls self.new) }
+        ensures fails { IsErrOf result LoadRefusal.Failed ↔
+            Contains (failing_calls self.old) (shelf_calls self.new) }
         ensures calls { shelf_calls self.new ≡ next_count (shelf_calls self.old) }
         ensures failing { failing_calls self.new ≡ failing_calls self.old }
     {
@@ -104,8 +107,10 @@ impl Shelf for MemShelf {
     }
 
     fn save(&mut self, name: &Word, bytes: &[u8]) -> Result<(), IoFault>
-        ensures saved { OnOk result (Saved (Some (shelf_files self.old)) (Some (shelf_files self.new)) name.now bytes.now) }
-        ensures others { OnErr result (OthersKept (Some (shelf_files self.old)) (Some (shelf_files self.new)) name.now) }
+        ensures saved { OnOk result
+            (Saved (Some (shelf_files self.old)) (Some (shelf_files self.new)) name.now bytes.now) }
+        ensures others { OnErr result
+            (OthersKept (Some (shelf_files self.old)) (Some (shelf_files self.new)) name.now) }
         ensures cause { HasCause self.old.save_faults self.new.save_faults result }
         ensures loads { self.new.load_faults ≡ self.old.load_faults }
 
@@ -134,7 +139,8 @@ fn index_of(files: &[(Word, Bytes)], name: &Word) -> Option<usize>
 /// A copy of the file of this name.
 fn find(alloc: Global, files: &[(Word, Bytes)], name: &Word) -> Result<Bytes, LoadRefusal>
     ensures found { IfOk result (λ bytes. Finds (Some (files_of files.now)) name.now bytes) }
-    ensures absent { IsErrOf result LoadRefusal.Absent → Misses (Some (files_of files.now)) name.now }
+    ensures absent { IsErrOf result LoadRefusal.Absent →
+        Misses (Some (files_of files.now)) name.now }
     ensures never { IsErrOf result LoadRefusal.Failed → ⊥ }
 {
     match index_of(files, name) {
@@ -150,7 +156,8 @@ fn put(
     name: &Word,
     bytes: &[u8],
 ) -> Result<(), NoMemory>
-    ensures ok { OnOk result (files_of files.new.items ≡ insert (files_of files.old.items) name.now bytes.now) }
+    ensures ok { OnOk result
+        (files_of files.new.items ≡ insert (files_of files.old.items) name.now bytes.now) }
     ensures err { OnErr result (files_of files.new.items ≡ files_of files.old.items) }
 {
     let file = (

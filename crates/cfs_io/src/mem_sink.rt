@@ -1,6 +1,6 @@
 //! A sink in memory.
 
-ghost use Rattle.std.specs.Prelude.{◌≡◌, ◌<◌, ◌↔◌, [], Some, length, min, IsErr, IfOk, OnErr, Contains};
+ghost use Rattle.std.specs.Prelude.{◌≡◌, ◌-◌, ◌^◌, ◌<◌, ◌↔◌, [], Some, length, min, IsErr, IfOk, OnErr, Contains};
 ghost use Rattle.std.specs.Io.{WritesAtMost};
 ghost use Rattle.cfs_io.specs.Causes.{HasCause, next_count};
 ghost use Rattle.cfs_io.specs.Streams.{TakesSome, WritesPiece};
@@ -27,6 +27,7 @@ impl MemSink {
     /// A sink with no bytes, whose writes with the numbers in `failing` are to fail. Takes no memory.
     pub fn new(alloc: Global, failing: Vec<u64>) -> MemSink
         ensures written { sink_written result ≡ [] }
+        ensures chunk { sink_chunk result ≡ 2 ^ 64 - 1 }
         ensures failing { failing_writes result ≡ failing.items }
         ensures writes { sink_writes result ≡ 0 }
         ensures faults { ⟦<MemSink as Sink>⟧.faults result ≡ 0 }
@@ -76,7 +77,8 @@ impl Sink for MemSink {
     fn write(&mut self, piece: &[u8]) -> Result<usize, IoFault>
         ensures bound { WritesAtMost result piece.now }
         ensures some { TakesSome result piece.now }
-        ensures bytes { WritesPiece (Some (sink_written self.old)) (Some (sink_written self.new)) result piece.now }
+        ensures bytes { WritesPiece (Some (sink_written self.old)) (Some (sink_written self.new))
+            result piece.now }
         ensures cause { HasCause self.old.faults self.new.faults result }
 
         // Beyond the trait: which writes fail, how much the others take, and that a failed one adds

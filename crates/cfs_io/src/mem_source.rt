@@ -1,6 +1,6 @@
 //! A source in memory.
 
-ghost use Rattle.std.specs.Prelude.{◌≡◌, ◌<◌, ◌≤◌, ◌↔◌, ◌++◌, Some, length, take, drop, min, IsErr, IfOk, OnErr, Contains};
+ghost use Rattle.std.specs.Prelude.{◌≡◌, ◌-◌, ◌^◌, ◌<◌, ◌≤◌, ◌↔◌, ◌++◌, Some, length, take, drop, min, IsErr, IfOk, OnErr, Contains};
 ghost use Rattle.std.specs.Io.{ReadsAtMost};
 ghost use Rattle.std.specs.Io.KnownBytes.{ReadConsumes};
 ghost use Rattle.cfs_io.specs.Causes.{HasCause, next_count};
@@ -23,14 +23,15 @@ pub struct MemSource {
 }
 
 impl MemSource {
-    ghost use Rattle.cfs_io.specs.Memory.{source_left, failing_reads, source_chunk};
+    ghost use Rattle.cfs_io.specs.Memory.{source_left, source_reads, failing_reads, source_chunk};
 
     /// A source with all of `bytes` left, whose reads with the numbers in `failing` are to fail.
     /// Takes no memory.
     pub fn new(bytes: Vec<u8>, failing: Vec<u64>) -> MemSource
         ensures left { source_left result ≡ bytes.items }
+        ensures chunk { source_chunk result ≡ 2 ^ 64 - 1 }
         ensures failing { failing_reads result ≡ failing.items }
-        ensures reads { ⟦<MemSource as Source>⟧.reads result ≡ 0 }
+        ensures reads { source_reads result ≡ 0 }
         ensures faults { ⟦<MemSource as Source>⟧.faults result ≡ 0 }
     {
         MemSource::in_chunks(bytes, usize::MAX, failing)
@@ -42,7 +43,7 @@ impl MemSource {
         ensures left { source_left result ≡ bytes.items }
         ensures chunk { source_chunk result ≡ chunk }
         ensures failing { failing_reads result ≡ failing.items }
-        ensures reads { ⟦<MemSource as Source>⟧.reads result ≡ 0 }
+        ensures reads { source_reads result ≡ 0 }
         ensures faults { ⟦<MemSource as Source>⟧.faults result ≡ 0 }
     {
         MemSource {
@@ -70,23 +71,26 @@ impl MemSource {
 }
 
 impl Source for MemSource {
-    ghost use Rattle.cfs_io.specs.Memory.{source_left, failing_reads, source_chunk};
+    ghost use Rattle.cfs_io.specs.Memory.{source_left, source_reads, failing_reads, source_chunk};
 
     ghost left = { λ source. Some (source_left source) };
 
     ghost faults = { λ source. source.faults };
 
-    ghost reads = { λ source. source.calls.made };
+    ghost reads = { λ source. source_reads source };
 
     fn read(&mut self, out: &mut [u8]) -> Result<usize, IoFault>
         ensures bound { ReadsAtMost result out.new }
-        ensures bytes { ReadConsumes (Some (source_left self.old)) (Some (source_left self.new)) result out.new }
+        ensures bytes { ReadConsumes (Some (source_left self.old)) (Some (source_left self.new))
+            result out.new }
         ensures cause { HasCause self.old.faults self.new.faults result }
-        ensures counted { self.new.calls.made ≡ next_count self.old.calls.made }
+        ensures counted { source_reads self.new ≡ next_count (source_reads self.old) }
 
         // Beyond the trait: which reads fail, and how much the others give.
-        ensures fails { IsErr result ↔ Contains (failing_reads self.old) (next_count self.old.calls.made) }
-        ensures count { IfOk result (λ n. n ≡ min (source_chunk self.old) (min (length (source_left self.old)) (length out.old))) }
+        ensures fails { IsErr result ↔
+            Contains (failing_reads self.old) (source_reads self.new) }
+        ensures count { IfOk result (λ n.
+            n ≡ min (source_chunk self.old) (min (length (source_left self.old)) (length out.old))) }
         ensures failing { failing_reads self.new ≡ failing_reads self.old }
         ensures chunk { source_chunk self.new ≡ source_chunk self.old }
     {

@@ -19,17 +19,19 @@ pub trait Shelf {
     /// How many saves have met a fault. The count stays at the end of `u64`.
     ghost save_faults: { Self → ℕ };
 
-    /// The bytes of the file `name`. It changes no file (own).
+    /// The bytes of the file `name`, or that there is none. It changes no file (own).
     fn load(&mut self, name: &Word) -> Result<Bytes, LoadRefusal>
         ensures found { IfOk result (λ bytes. Finds (files self.old) name.now bytes) }
         ensures absent { IsErrOf result LoadRefusal.Absent → Misses (files self.old) name.now }
         ensures same { files self.new ≡ files self.old }
 
-        // The causes.
-        ensures failed { IsErrOf result LoadRefusal.Failed → Rose (load_faults self.old) (load_faults self.new) }
+        // It failed only where the shelf did.
+        ensures failed { IsErrOf result LoadRefusal.Failed →
+            Rose (load_faults self.old) (load_faults self.new) }
         ensures later { load_faults self.old ≤ load_faults self.new }
         ensures kept { OnOk result (load_faults self.new ≡ load_faults self.old) }
-        ensures kept_absent { IsErrOf result LoadRefusal.Absent → load_faults self.new ≡ load_faults self.old }
+        ensures kept_absent { IsErrOf result LoadRefusal.Absent →
+            load_faults self.new ≡ load_faults self.old }
         ensures saves { save_faults self.new ≡ save_faults self.old };
 
     /// Makes `bytes` the file `name`, in place of one that is there. A failed save changes no file

@@ -30,8 +30,10 @@ impl<W: Write> StdSink<W> {
 
     /// Passes on what the writer holds back. A failure is a fault of the sink.
     pub fn flush(&mut self) -> Result<(), IoFault>
-        ensures bytes { Keeps (⟦<StdSink<W> as Sink>⟧.written self.old) (⟦<StdSink<W> as Sink>⟧.written self.new) }
-        ensures cause { HasCause (⟦<StdSink<W> as Sink>⟧.faults self.old) (⟦<StdSink<W> as Sink>⟧.faults self.new) result }
+        ensures bytes { Keeps (⟦<StdSink<W> as Sink>⟧.written self.old)
+            (⟦<StdSink<W> as Sink>⟧.written self.new) }
+        ensures cause { HasCause (⟦<StdSink<W> as Sink>⟧.faults self.old)
+            (⟦<StdSink<W> as Sink>⟧.faults self.new) result }
     {
         match self.writer.flush() {
             Ok(()) => Ok(()),
