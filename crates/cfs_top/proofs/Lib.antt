@@ -1,0 +1,4 @@
+pub mod Ends
+pub mod Orders
+pub mod Runs
+pub mod Words

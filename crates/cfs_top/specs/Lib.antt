@@ -1,0 +1,7 @@
+pub mod Answers
+pub mod Command
+pub mod Order
+pub mod Outside
+pub mod Play
+pub mod Statuses
+pub mod Text

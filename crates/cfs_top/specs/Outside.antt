@@ -1,0 +1,112 @@
+-- How a call of the program ends: after which words and input, with which status and output.
+use Rattle.std.specs.Prelude.{◌≡◌, ◌⊎◌, ℕ, List, []}
+use Rattle.std.specs.declared.option.Option.{Option}
+use Rattle.std.specs.Io.KnownBytes.{Appends, Consumes, IsAtEnd}
+use Rattle.cfs_file.specs.declared.entry.Entry.{Entry}
+use Rattle.cfs_io.specs.declared.script.TheConstants.{LONGEST_SCRIPT}
+use Rattle.cfs_io.specs.Files.{Files}
+use Rattle.cfs_io.specs.Streams.{AppendsFront, MoreCame, SomeCame}
+use Rattle.cfs_script.specs.declared.line.Line.{Line}
+use Rattle.cfs_script.specs.Script.{IsScript, IsNoScript}
+use Rattle.cfs_top.specs.declared.out_line.OutLine.{OutLine}
+use Rattle.cfs_top.specs.declared.status.Status.{Status}
+use Rattle.cfs_top.specs.declared.status.Status.TheVariants.{Done, Usage, Script, Input, Output, NoMemory}
+use Rattle.cfs_top.specs.Command.{IsPlay}
+use Rattle.cfs_top.specs.Order.{KeepsOrder}
+use Rattle.cfs_top.specs.Play.{Run}
+use Rattle.cfs_top.specs.Text.{refused_text, texts, usage_text}
+
+-- what is told of the outside at one moment: the bytes that the source has left, the bytes that the
+-- sink has, the files of the shelf
+pub record Outside : Type 0 where
+  pub left : Option (List ℕ)
+  pub written : Option (List ℕ)
+  pub files : Option Files
+
+-- The source was read to its end, its bytes are a script, and the text is all that its lines answer,
+-- one after another from an empty file on.
+pub record PlaysScript (left rest : Option (List ℕ)) (text : List ℕ) : Type 0 where
+  pub bytes : List ℕ
+  pub came : Consumes left rest bytes
+  pub end : IsAtEnd rest
+  pub lines : List Line
+  pub script : IsScript bytes lines
+  pub outs : List OutLine
+  pub log : List Entry
+  pub run : Run [] lines outs log
+  pub order : KeepsOrder lines outs log
+  pub is_text : text ≡ texts outs
+
+-- The source was read to its end, and its bytes are no script.
+pub record IsNone (left rest : Option (List ℕ)) : Type 0 where
+  pub bytes : List ℕ
+  pub came : Consumes left rest bytes
+  pub end : IsAtEnd rest
+  pub none : IsNoScript bytes
+
+-- more bytes came than a script may have, or what came is no script
+abbrev pub IsRefused : Option (List ℕ) → Option (List ℕ) → Type 0
+IsRefused left rest = MoreCame left rest LONGEST_SCRIPT ⊎ IsNone left rest
+
+-- the status that `play` is to end with, and the text that it is to write
+abbrev pub PlayIsDue : Option (List ℕ) → Option (List ℕ) → Status → List ℕ → Type 0
+PlayIsDue left rest Done text = PlaysScript left rest text
+PlayIsDue left rest Usage text = ⊥
+PlayIsDue left rest Script text = IsRefused left rest × (text ≡ refused_text)
+PlayIsDue left rest Input text = ⊥
+PlayIsDue left rest Output text = ⊥
+PlayIsDue left rest NoMemory text = ⊥
+
+-- the words are `play` of some image
+abbrev pub ArePlay : List (List ℕ) → Type 0
+ArePlay words = (image : List ℕ) × IsPlay words image
+
+-- the status that the call is to end with, and the text that it is to write
+abbrev pub IsDue : List (List ℕ) → Option (List ℕ) → Option (List ℕ) → Status → List ℕ → Type 0
+IsDue words left rest status text =
+    (ArePlay words × PlayIsDue left rest status text)
+    ⊎ ((ArePlay words → ⊥) × (status ≡ Usage) × (rest ≡ left) × (text ≡ usage_text))
+
+-- some front of a text that is due was written
+pub record WritesFront (due : Status → List ℕ → Type 0) (before after : Option (List ℕ)) : Type 0 where
+  pub status : Status
+  pub text : List ℕ
+  pub is_due : due status text
+  pub written : AppendsFront before after text
+
+-- the text that is due with this status was written
+pub record WritesAll (due : Status → List ℕ → Type 0) (status : Status) (before after : Option (List ℕ)) : Type 0 where
+  pub text : List ℕ
+  pub is_due : due status text
+  pub written : Appends before after text
+
+-- what was written, by the status
+abbrev pub Writes : (Status → List ℕ → Type 0) → Status → Option (List ℕ) → Option (List ℕ) → Type 0
+Writes due Done before after = WritesAll due Done before after
+Writes due Usage before after = WritesAll due Usage before after
+Writes due Script before after = WritesAll due Script before after
+Writes due Input before after = after ≡ before
+Writes due Output before after = WritesFront due before after
+Writes due NoMemory before after = (after ≡ before) ⊎ WritesFront due before after
+
+-- A call with these words ended so: what it wrote is what is due, the shelf is as before, and a source
+-- that failed was asked since the words are `play`.
+pub record Ends (status : Status) (words : List (List ℕ)) (before after : Outside) : Type 0 where
+  pub writes : Writes (IsDue words before.left after.left) status before.written after.written
+  pub asked : status ≡ Input → ArePlay words
+  pub came : SomeCame before.left after.left
+  pub files : after.files ≡ before.files
+
+-- the call ended with the status that was due
+abbrev pub IsHeeded : Status → Type 0
+IsHeeded Done = Unit {0}
+IsHeeded Usage = Unit {0}
+IsHeeded Script = Unit {0}
+IsHeeded Input = ⊥
+IsHeeded Output = ⊥
+IsHeeded NoMemory = ⊥
+
+-- the text was written, which ends with this status, or a front of it, which ends with a fault
+abbrev pub Says : Status → Status → List ℕ → Option (List ℕ) → Option (List ℕ) → Type 0
+Says result status text before after =
+    ((result ≡ status) × Appends before after text) ⊎ ((result ≡ Output) × AppendsFront before after text)

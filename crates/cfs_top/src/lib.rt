@@ -1,0 +1,14 @@
+//! The top call: all that the program `crossfs` does, over the words, the source, the sink and the
+//! shelf that are handed in.
+#![tactic(auto)]
+
+mod command;
+mod out_line;
+mod play;
+mod printed;
+mod status;
+mod steady;
+mod world;
+
+pub use status::Status;
+pub use steady::crossfs_steady;

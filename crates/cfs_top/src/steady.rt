@@ -1,0 +1,86 @@
+//! The top call without threads.
+
+ghost use Rattle.std.specs.Prelude.{◌≡◌, ◌≤◌, List, ℕ};
+ghost use Rattle.std.specs.declared.option.Option.{Option};
+ghost use Rattle.cfs_io.specs.Causes.{Rose};
+ghost use Rattle.cfs_io.specs.Streams.{SomeCame};
+ghost use Rattle.cfs_top.specs.Outside.{Ends, IsHeeded, PlayIsDue, Says, Writes};
+
+use crate::Status;
+use crate::command::image_to_play;
+use crate::play::{PlayEnd, play_script};
+use crate::world::World;
+use cfs_file::Word;
+use cfs_io::{IoFault, ReadRefusal, Shelf, Sink, Source, read_script, write_all};
+use cfs_script::{ScriptRefusal, read_play};
+use std::alloc::Global;
+
+/// Does what the words ask for: `play IMAGE`, after the program's name. It reads a script from
+/// `input` and writes what the script's lines answer to `output`. It always returns.
+///
+/// The image is neither loaded nor saved yet: each script begins with an empty file system.
+pub fn crossfs_steady<S: Source, K: Sink, H: Shelf>(
+    alloc: Global,
+    words: &[Word],
+    input: &mut S,
+    output: &mut K,
+    shelf: &mut H,
+) -> Status
+    ensures ends { Ends result words.now
+        (record { left = S.left input.old; written = K.written output.old; files = H.files shelf.old })
+        (record { left = S.left input.new; written = K.written output.new; files = H.files shelf.new }) }
+
+    // A fault is answered only where there was one, and none is passed over.
+    ensures input { result ≡ Status.Input → Rose (S.faults input.old) (S.faults input.new) }
+    ensures output { result ≡ Status.Output → Rose (K.faults output.old) (K.faults output.new) }
+    ensures source { IsHeeded result → S.faults input.new ≡ S.faults input.old }
+    ensures sink { IsHeeded result → K.faults output.new ≡ K.faults output.old }
+    ensures loads { H.load_faults shelf.new ≡ H.load_faults shelf.old }
+    ensures saves { H.save_faults shelf.new ≡ H.save_faults shelf.old }
+{
+    match image_to_play(words) {
+        Some(_) => play(alloc, input, output),
+        None => say(output, b"usage\n", Status::Usage),
+    }
+}
+
+/// Reads a script from `input` and plays it.
+fn play<S: Source, K: Sink>(alloc: Global, input: &mut S, output: &mut K) -> Status
+    ensures writes { Writes (PlayIsDue (S.left input.old) (S.left input.new)) result (K.written output.old) (K.written output.new) }
+    ensures came { SomeCame (S.left input.old) (S.left input.new) }
+    ensures input { result ≡ Status.Input → Rose (S.faults input.old) (S.faults input.new) }
+    ensures output { result ≡ Status.Output → Rose (K.faults output.old) (K.faults output.new) }
+    ensures source { IsHeeded result → S.faults input.new ≡ S.faults input.old }
+    ensures sink { IsHeeded result → K.faults output.new ≡ K.faults output.old }
+{
+    let bytes = match read_script(alloc, input) {
+        Ok(bytes) => bytes,
+        Err(ReadRefusal::TooLong) => return say(output, b"script refused\n", Status::Script),
+        Err(ReadRefusal::Failed) => return Status::Input,
+        Err(ReadRefusal::NoMemory) => return Status::NoMemory,
+    };
+    let script = match read_play(alloc, bytes.as_slice()) {
+        Ok(script) => script,
+        Err(ScriptRefusal::Line(_)) => return say(output, b"script refused\n", Status::Script),
+        Err(ScriptRefusal::NoMemory) => return Status::NoMemory,
+    };
+    let mut world = World::new(alloc);
+    match play_script(alloc, &mut world, &script, output) {
+        Ok(()) => Status::Done,
+        Err(PlayEnd::Output) => Status::Output,
+        Err(PlayEnd::NoMemory) => Status::NoMemory,
+    }
+}
+
+/// Writes a text that ends the program with `status`, or fails to.
+fn say<K: Sink>(output: &mut K, text: &[u8], status: Status) -> Status
+    requires { IsHeeded status }
+    ensures said { Says result status text.now (K.written output.old) (K.written output.new) }
+    ensures output { result ≡ Status.Output → Rose (K.faults output.old) (K.faults output.new) }
+    ensures sink { IsHeeded result → K.faults output.new ≡ K.faults output.old }
+{
+    match write_all(output, text) {
+        Ok(()) => status,
+        Err(IoFault) => Status::Output,
+    }
+}
