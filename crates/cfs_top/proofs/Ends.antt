@@ -1,17 +1,16 @@
 -- How calls of the program end.
-use Rattle.std.proofs.Common.{◌≡◌, ◌⊎◌, inl, inr, ℕ, Some, None, List, [], refl, sym, ◌∙◌, subst}
+use Rattle.std.proofs.Common.{◌≡◌, inl, inr, ℕ, Some, None, List, [], refl, sym, subst}
 use Rattle.std.specs.declared.option.Option.{Option}
-use Rattle.std.specs.Io.KnownBytes.{Appends, Consumes, IsAtEnd}
+use Rattle.std.specs.Io.KnownBytes.{Consumes, IsAtEnd}
 use Rattle.cfs_file.specs.declared.entry.Entry.{Entry}
-use Rattle.cfs_io.specs.Streams.{AppendsFront}
 use Rattle.cfs_script.specs.declared.line.Line.{Line}
-use Rattle.cfs_script.specs.Script.{IsScript, IsNoScript}
+use Rattle.cfs_script.specs.Script.{IsScript}
 use Rattle.cfs_top.specs.declared.out_line.OutLine.{OutLine}
 use Rattle.cfs_top.specs.declared.status.Status.{Status}
 use Rattle.cfs_top.specs.declared.status.Status.TheVariants.{Done, Usage, Script, Input, Output, NoMemory}
-use Rattle.cfs_top.specs.Outside.{ArePlay, IsDue, IsHeeded, IsNone, PlayIsDue, PlaysScript, Says, Writes, WritesAll, WritesFront}
+use Rattle.cfs_top.specs.Outside.{ArePlay, IsDue, IsHeeded, PlayIsDue, Says, Writes, WritesAll, WritesFront}
 use Rattle.cfs_top.specs.Play.{PlaysAll, PlaysFront, Run}
-use Rattle.cfs_top.specs.Text.{refused_text, texts}
+use Rattle.cfs_top.specs.Text.{texts}
 use Rattle.cfs_top.proofs.Orders.{KeepsOrder-run}
 
 -- all of a text that is due was written

@@ -1,5 +1,5 @@
 -- A run keeps the order of its lines.
-use Rattle.std.proofs.Common.{◌≡◌, ℕ, ◌+◌, ◌≤◌, ◌==◌, ◌⊎◌, inl, inr, Some, None, List, [], ◌∷◌, ◌++◌, length, map, take, max, arith, refl, sym, ap, ◌∙◌, append_assoc, append-nil, length-append, Bool, true, false, cond}
+use Rattle.std.proofs.Common.{◌≡◌, ℕ, ◌+◌, ◌≤◌, ◌==◌, inl, inr, Some, List, [], ◌∷◌, ◌++◌, length, map, take, max, arith, refl, sym, ap, ◌∙◌, append_assoc, append-nil, length-append, Bool, true, false, cond}
 use Rattle.std.specs.declared.option.Option.{Option}
 use Rattle.std.specs.Option.{option_to_list}
 use Rattle.std.specs.List.{filter}
@@ -12,19 +12,19 @@ use Rattle.cfs_file.specs.declared.request.Request.{Request}
 use Rattle.cfs_file.specs.declared.request.Request.TheVariants as requests
 use Rattle.cfs_file.specs.declared.file.TheConstants.{LONGEST_FILE}
 use Rattle.cfs_file.specs.File.{IsFile, answer, effect, put}
-use Rattle.cfs_file.specs.Log.{IsLegal, file_of, own_list}
+use Rattle.cfs_file.specs.Log.{IsLegal, file_of}
 use Rattle.cfs_file.proofs.Logs.{IsLegal-none, IsLegal-snoc}
 use Rattle.cfs_file.proofs.Positions.{put-writes}
 use Rattle.cfs_script.specs.declared.form.Form.{Form}
 use Rattle.cfs_script.specs.declared.form.Form.TheVariants as forms
 use Rattle.cfs_script.specs.declared.line.Line.{Line}
 use Rattle.cfs_script.specs.Script.{IsScript}
-use Rattle.cfs_script.proofs.Shapes.{AreTransfers, HasShape, IsScript-shape, IsTransfer}
+use Rattle.cfs_script.proofs.Shapes.{AreTransfers, IsScript-shape, IsTransfer}
 use Rattle.cfs_top.specs.declared.out_line.OutLine.{OutLine}
 use Rattle.cfs_top.specs.declared.world.TheConstants.{FILE}
 use Rattle.cfs_top.specs.Answers.{printed, given, given_by}
 use Rattle.cfs_top.specs.Order.{is_request, is_request_of, numbers, lines_in, KeepsOrder}
-use Rattle.cfs_top.specs.Play.{Admits, Does, Step, Run}
+use Rattle.cfs_top.specs.Play.{Admits, Does, Run}
 
 -- ---- which lines the entries come from
 

@@ -1,25 +1,20 @@
 -- Runs in sequence, and what they write.
-use Rattle.std.proofs.Common.{◌≡◌, ℕ, ◌+◌, ◌≤◌, Some, None, List, [], ◌∷◌, ◌++◌, length, take, drop, get_or, ◌<◌, arith, refl, sym, ap, ◌∙◌, append_assoc, append-nil, length-append}
+use Rattle.std.proofs.Common.{◌≡◌, ℕ, ◌+◌, Some, None, List, [], ◌∷◌, ◌++◌, length, take, drop, get_or, ◌<◌, arith, refl, sym, ap, ◌∙◌, append_assoc, append-nil, length-append}
 use Rattle.std.specs.declared.option.Option.{Option}
 use Rattle.std.specs.Option.{option_to_list}
 use Rattle.std.specs.Prelude.{Result, Ok, Err, OnErr}
 use Rattle.std.specs.Io.KnownBytes.{Appends}
 use Rattle.std.proofs.KnownBytes.{Appends-trans}
-use Rattle.std.proofs.Math.Seq.{take-length, take-append_seam, take-append-add}
+use Rattle.std.proofs.Math.Seq.{take-append_seam, take-append-add}
 use Rattle.std.proofs.lemmas.List.{take-append-le, take_more, take-append-drop}
 use Rattle.cfs_io.specs.Streams.{AppendsFront}
 use Rattle.cfs_file.specs.declared.entry.Entry.{Entry}
 use Rattle.cfs_file.specs.declared.request.Request.{Request}
 use Rattle.cfs_file.specs.declared.request.Request.TheVariants as requests
-use Rattle.cfs_file.specs.File.{answer}
-use Rattle.cfs_file.specs.Log.{file_of}
 use Rattle.cfs_script.specs.declared.form.Form.{Form}
 use Rattle.cfs_script.specs.declared.form.Form.TheVariants as forms
 use Rattle.cfs_script.specs.declared.line.Line.{Line}
 use Rattle.cfs_top.specs.declared.out_line.OutLine.{OutLine}
-use Rattle.cfs_top.specs.declared.printed.Printed.TheVariants.{Opened}
-use Rattle.cfs_top.specs.declared.world.TheConstants.{FILE}
-use Rattle.cfs_top.specs.Answers.{printed}
 use Rattle.cfs_top.specs.Play.{Admits, Does, Step, Run, PlaysAll, PlaysFront}
 use Rattle.cfs_top.specs.Text.{line_text, texts}
 

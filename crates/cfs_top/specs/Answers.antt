@@ -1,5 +1,5 @@
 -- What is printed of an answer, and which answers were printed.
-use Rattle.std.specs.Prelude.{ℕ, Option, Some, None, List, [], ◌∷◌, ◌++◌}
+use Rattle.std.specs.Prelude.{ℕ, Option, Some, List, [], ◌∷◌, ◌++◌}
 use Rattle.cfs_file.specs.declared.answer.Answer.{Answer}
 use Rattle.cfs_file.specs.declared.answer.Answer.TheVariants as answers
 use Rattle.cfs_top.specs.declared.printed.Printed.{Printed}

@@ -12,3 +12,6 @@ mod world;
 
 pub use status::Status;
 pub use steady::crossfs_steady;
+
+#[cfg(test)]
+mod tests;

@@ -1,4 +1,4 @@
-use Rattle.std.proofs.Common.{◌≡◌, ◌∙◌, arith, sym}
+use Rattle.std.proofs.Common.{◌∙◌, arith, sym}
 use Rattle.cfs_top.proofs.Words.{IsPlay-three}
 use Rattle.cfs_top.proofs.command.image_to_play.Goals as goal
 

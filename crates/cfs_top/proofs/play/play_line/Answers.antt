@@ -1,4 +1,4 @@
-use Rattle.std.proofs.Common.{◌≡◌, ◌∙◌, rules}
+use Rattle.std.proofs.Common.{◌∙◌}
 use Rattle.cfs_top.proofs.Runs.{on_err, PlaysAll-line, PlaysAll-silent, PlaysFront-line, PlaysFront-none}
 use Rattle.cfs_top.proofs.play.play_line.Goals as goal
 

@@ -1,6 +1,5 @@
-use Rattle.std.proofs.Common.{◌≡◌, ◌∙◌, ◌∷◌, [], ◌++◌, ◌+◌, take, drop, ap, arith, subst, sym, rules}
+use Rattle.std.proofs.Common.{◌∙◌, ◌+◌, drop}
 use Rattle.std.proofs.lemmas.List.{take_more}
-use Rattle.cfs_top.specs.Play.{PlaysAll, PlaysFront}
 use Rattle.cfs_top.proofs.Runs.{around, on_err, PlaysAll-append, PlaysFront-behind, PlaysFront-more}
 use Rattle.cfs_top.proofs.play.play_script.Goals as goal
 

@@ -1,4 +1,4 @@
-use Rattle.std.proofs.Common.{◌≡◌, ◌∙◌, inl, inr, [], refl, sym}
+use Rattle.std.proofs.Common.{◌∙◌, inl, inr, [], refl, sym}
 use Rattle.cfs_top.proofs.Ends.{Consumes-none, output_input, said_writes, usage_input}
 use Rattle.cfs_top.proofs.steady.crossfs_steady.Goals as goal
 

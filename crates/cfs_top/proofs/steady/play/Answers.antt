@@ -1,4 +1,4 @@
-use Rattle.std.proofs.Common.{◌≡◌, ◌∙◌, inl, inr, refl, sym}
+use Rattle.std.proofs.Common.{inl, inr, refl}
 use Rattle.cfs_top.proofs.Ends.{all_of_script, front_of_script, said_writes}
 use Rattle.cfs_top.proofs.steady.play.Goals as goal
 

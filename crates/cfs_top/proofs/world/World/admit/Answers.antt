@@ -1,4 +1,3 @@
-use Rattle.std.proofs.Common.{◌≡◌, ◌∙◌, refl}
 use Rattle.cfs_file.proofs.Logs.{file_of-append}
 use Rattle.cfs_top.proofs.world.World.admit.Goals as goal
 

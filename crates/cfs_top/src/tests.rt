@@ -1,0 +1,158 @@
+use crate::{Status, crossfs_steady};
+use cfs_file::{NoMemory, Word};
+use cfs_io::{MemShelf, MemSink, MemSource};
+use std::alloc::Global;
+use std::test::Fail;
+
+fn words_of(alloc: Global, texts: &[&str]) -> Result<Vec<Word>, NoMemory> {
+    let mut words = Vec::new(alloc);
+    for text in texts {
+        words.push(Word::from_slice(alloc, text.as_bytes())?)?;
+    }
+    Ok(words)
+}
+
+fn numbers(alloc: Global, number: Option<u64>) -> Result<Vec<u64>, NoMemory> {
+    let mut numbers = Vec::new(alloc);
+    if let Some(number) = number {
+        numbers.push(number)?;
+    }
+    Ok(numbers)
+}
+
+/// What a call of the program gave.
+#[derive(Debug, Drop)]
+struct Ended {
+    status: Status,
+    output: Vec<u8>,
+}
+
+// A call over a source whose read of that number fails, and a sink whose write of that number fails.
+fn run(
+    alloc: Global,
+    texts: &[&str],
+    script: &str,
+    read: Option<u64>,
+    write: Option<u64>,
+) -> Result<Ended, NoMemory> {
+    let words = words_of(alloc, texts)?;
+    let bytes = Vec::from_slice(alloc, script.as_bytes())?;
+    let mut input = MemSource::new(bytes, numbers(alloc, read)?);
+    let mut output = MemSink::new(alloc, numbers(alloc, write)?);
+    let mut shelf = MemShelf::new(alloc, Vec::new(alloc));
+    let status = crossfs_steady(alloc, words.as_slice(), &mut input, &mut output, &mut shelf);
+    Ok(Ended {
+        status,
+        output: Vec::from_slice(alloc, output.written())?,
+    })
+}
+
+const BEGIN: &str = "caller 1 10 10\n1 open /a rwc 0644\n";
+
+#[test]
+fn scripts_answer_their_lines(rt: HostRuntime) -> Result<(), Fail> {
+    for (script, status, expected) in [
+        ("", Status::Done, ""),
+        (
+            "caller 1 10 10\n1 open /a rwc 0644",
+            Status::Done,
+            "2 ok ns=1 fd=0 ino=2\n",
+        ),
+        (
+            "caller 1 10 10\n1 open /a rwc 0644\n1 pwrite 0 10 t:xyz\n1 pread 0 0 12\n",
+            Status::Done,
+            "2 ok ns=1 fd=0 ino=2\n3 ok ino=2 place=1 off=10 n=3\n4 ok ino=2 place=2 n=12 h:000000000000000000007879\n",
+        ),
+        (
+            "caller 1 10 10\n1 open /a rwc 0644\n1 pread 0 0 3\n1 pwrite 0 0 t:abc\n1 pread 0 1 1\n1 pwrite 0 1 t:Z\n1 pread 0 0 4096\n",
+            Status::Done,
+            "2 ok ns=1 fd=0 ino=2\n3 ok ino=2 place=1 n=0 h:\n4 ok ino=2 place=2 off=0 n=3\n5 ok ino=2 place=3 n=1 h:62\n6 ok ino=2 place=4 off=1 n=1\n7 ok ino=2 place=5 n=3 h:615a63\n",
+        ),
+        (
+            "caller 1 10 10\n1 opne /a r\n",
+            Status::Script,
+            "script refused\n",
+        ),
+        ("caller 1 10 10\n", Status::Script, "script refused\n"),
+        (
+            "caller 1 10 10\n1 open /a rwc 0644\n1 pread 0 00 3\n",
+            Status::Script,
+            "script refused\n",
+        ),
+    ] {
+        let ended = run(rt.alloc(), &["crossfs", "play", "d"], script, None, None)?;
+        assert_eq!(rt; ended.output.as_slice(), expected.as_bytes(), "{script}");
+        assert_eq!(rt; ended.status, status, "{script}");
+    }
+    Ok(())
+}
+
+#[test]
+fn other_words_are_usage(rt: HostRuntime) -> Result<(), Fail> {
+    let half =
+        "123456789/123456789/123456789/123456789/123456789/123456789/123456789/123456789/123456789/123456789/";
+    let longest = format!(in rt.alloc(); "{half}{half}")?;
+    let longer = format!(in rt.alloc(); "{half}{half}.")?;
+    for (command, image, status) in [
+        ("play", "-a/B_9.", Status::Done),
+        ("play", longest.as_str(), Status::Done),
+        ("play", longer.as_str(), Status::Usage),
+        ("play", "", Status::Usage),
+        ("play", "a b", Status::Usage),
+        ("plays", "d", Status::Usage),
+    ] {
+        let ended = run(rt.alloc(), &["crossfs", command, image], "", None, None)?;
+        assert_eq!(rt; ended.status, status, "{command} {image}");
+        let expected = if status == Status::Usage {
+            "usage\n"
+        } else {
+            ""
+        };
+        assert_eq!(rt;
+            ended.output.as_slice(),
+            expected.as_bytes(),
+            "{command} {image}"
+        );
+    }
+    let few = run(rt.alloc(), &["crossfs", "play"], "", None, None)?;
+    assert_eq!(rt; few.status, Status::Usage);
+    let many = run(rt.alloc(), &["crossfs", "play", "d", "d"], "", None, None)?;
+    assert_eq!(rt; many.status, Status::Usage);
+    Ok(())
+}
+
+#[test]
+fn a_fault_ends_the_call(rt: HostRuntime) -> Result<(), Fail> {
+    let open = "2 ok ns=1 fd=0 ino=2\n";
+    for (words, script, read, write, status, expected) in [
+        ("play", BEGIN, Some(1), None, Status::Input, ""),
+        ("play", BEGIN, Some(2), None, Status::Input, ""),
+        ("play", BEGIN, None, Some(1), Status::Output, ""),
+        ("play", BEGIN, None, Some(2), Status::Done, open),
+        ("pl", BEGIN, Some(1), Some(1), Status::Output, ""),
+        ("play", "#\n", None, Some(1), Status::Output, ""),
+    ] {
+        let ended = run(rt.alloc(), &["crossfs", words, "d"], script, read, write)?;
+        assert_eq!(rt; ended.status, status, "{words} {script}");
+        assert_eq!(rt;
+            ended.output.as_slice(),
+            expected.as_bytes(),
+            "{words} {script}"
+        );
+    }
+    Ok(())
+}
+
+#[test]
+fn each_status_has_its_number(rt: HostRuntime) {
+    for (status, number) in [
+        (Status::Done, 0),
+        (Status::Usage, 1),
+        (Status::Script, 2),
+        (Status::Input, 4),
+        (Status::Output, 5),
+        (Status::NoMemory, 7),
+    ] {
+        assert_eq!(rt; status.number(), number);
+    }
+}
