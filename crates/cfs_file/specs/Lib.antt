@@ -1,3 +1,4 @@
 pub mod File
 pub mod Log
 pub mod Span
+pub mod Position

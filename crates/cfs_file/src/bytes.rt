@@ -2,6 +2,7 @@
 
 ghost use Rattle.std.specs.Prelude.{◌≡◌, ◌==◌, ◌+◌, length, take, drop, IfOk, OnOk, OnErr};
 ghost use Rattle.cfs_file.specs.File.{put, resized};
+ghost use Rattle.cfs_file.specs.Position.{Reads, Resizes, Writes};
 
 use crate::NoMemory;
 use std::alloc::Global;
@@ -79,18 +80,10 @@ impl Bytes {
     /// Costs the bytes written and filled. An `Err` leaves the bytes as they were.
     pub fn put(&mut self, offset: u64, piece: &[u8]) -> Result<(), NoMemory>
         ensures ok { OnOk result (self.new ≡ put self.old offset piece.now) }
+        ensures positions { OnOk result (Writes self.old self.new offset piece.now) }
         ensures err { OnErr result (self.new ≡ self.old) }
     {
-        let vec = &mut self.vec;
-        let offset = offset as usize;
-        let end = offset.checked_add(piece.len()).ok_or(NoMemory)?;
-        vec.reserve(end.saturating_sub(vec.len()))?;
-        if vec.len() < offset {
-            vec.resize(offset, 0)?;
-        }
-        let (over, past) = piece.split_at(piece.len().min(vec.len() - offset));
-        vec[offset..offset + over.len()].copy_from_slice(over);
-        vec.extend_from_slice(past)?;
+        overwrite(&mut self.vec, offset as usize, piece)?;
         Ok(())
     }
 
@@ -98,6 +91,7 @@ impl Bytes {
     /// An `Err` leaves the bytes as they were.
     pub fn resize(&mut self, len: u64) -> Result<(), NoMemory>
         ensures ok { OnOk result (self.new ≡ resized self.old len) }
+        ensures positions { OnOk result (Resizes self.old self.new len) }
         ensures err { OnErr result (self.new ≡ self.old) }
     {
         self.vec.resize(len as usize, 0)?;
@@ -107,13 +101,30 @@ impl Bytes {
     /// The bytes from `offset` on, at most `count` of them; none at or past the end (POSIX.1-2017,
     /// read()). Takes no memory.
     pub fn part(&self, offset: u64, count: u64) -> &[u8]
-        ensures { result.now ≡ take count (drop offset self.now) }
+        ensures part { result.now ≡ take count (drop offset self.now) }
+        ensures positions { Reads self.now offset count result.now }
     {
         let bytes = self.vec.as_slice();
         let from = bytes.len().min(offset as usize);
         let rest = &bytes[from..];
         &rest[..rest.len().min(count as usize)]
     }
+}
+
+/// Writes `piece` at `offset`, filling a gap with zero bytes. An `Err` changes nothing.
+fn overwrite(vec: &mut Vec<u8>, offset: usize, piece: &[u8]) -> Result<(), NoMemory>
+    ensures ok { OnOk result (vec.new.items ≡ put vec.old.items offset piece.now) }
+    ensures err { OnErr result (vec.new.items ≡ vec.old.items) }
+{
+    let end = offset.checked_add(piece.len()).ok_or(NoMemory)?;
+    vec.reserve(end.saturating_sub(vec.len()))?;
+    if vec.len() < offset {
+        vec.resize(offset, 0)?;
+    }
+    let (over, past) = piece.split_at(piece.len().min(vec.len() - offset));
+    vec[offset..offset + over.len()].copy_from_slice(over);
+    vec.extend_from_slice(past)?;
+    Ok(())
 }
 
 /// Whether the bytes are the same.

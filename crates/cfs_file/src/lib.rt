@@ -22,3 +22,6 @@ pub use no_memory::NoMemory;
 pub use request::Request;
 pub use span::{Span, covers, overlaps, span_of};
 pub use word::Word;
+
+#[cfg(test)]
+mod tests;
