@@ -1,0 +1,4 @@
+pub mod Ranges
+pub mod ImageLemmas
+pub mod MomentLemmas
+pub mod MemRegions
