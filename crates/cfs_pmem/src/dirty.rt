@@ -1,8 +1,6 @@
 //! The range of places that were written since the last persist.
 ghost use Rattle.std.specs.Prelude.{◌≡◌, length};
 
-
-
 /// The least range that holds every place that was added: `from..to`, or none where `to` is not above `from`.
 #[derive(Clone, Copy, Debug)]
 pub struct Dirty {
@@ -21,6 +19,7 @@ impl Dirty {
     }
 
     /// Adds the places from `from` up to `to`.
+    #[inline]
     pub fn add(&mut self, from: usize, to: usize)
         ensures { self.new ≡ with_range from to self.old }
     {
@@ -29,6 +28,7 @@ impl Dirty {
     }
 
     /// Makes what is durable equal to what is present, where the two differ in this range alone. Copies the range.
+    #[inline]
     pub fn copy<T: Copy>(self, present: &Vec<T>, durable: &mut Vec<T>)
         requires { DifferWithin self durable.old.items present.now.items }
         ensures { durable.new.items ≡ present.now.items }

@@ -42,6 +42,7 @@ impl History {
     }
 
     /// Notes a write, or a step that failed, with the words after it.
+    #[inline]
     pub fn change(&mut self, words: &Vec<u64>)
         ensures { self.new ≡ changed words.now.items ∷ self.old }
     {
@@ -50,6 +51,7 @@ impl History {
     }
 
     /// Notes a persist that succeeded, with the words after it.
+    #[inline]
     pub fn persist(&mut self, words: &Vec<u64>)
         ensures { self.new ≡ persisted words.now.items ∷ self.old }
     {

@@ -20,3 +20,6 @@ pub use pick::Pick;
 pub use power::Power;
 pub use region::{Region, set_word};
 pub use trace::Trace;
+
+#[cfg(test)]
+mod tests;

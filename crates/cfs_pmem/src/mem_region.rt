@@ -37,7 +37,11 @@ impl Model for MemRegion {
 
 impl MemRegion {
     /// A region of these words, which are durable. Without memory for the second copy the words are given back.
-    pub fn new(alloc: Global, device: u32, words: Vec<u64>) -> Result<MemRegion, AllocFailed<Vec<u64>>>
+    pub fn new(
+        alloc: Global,
+        device: u32,
+        words: Vec<u64>,
+    ) -> Result<MemRegion, AllocFailed<Vec<u64>>>
         requires { vec_len words < 2 ^ 32 }
         ensures ok { IfOk result (λ region. region ≡ record { seen = began device words.items; faults = 0 }) }
         ensures err { IfErr result (λ refused. refused.value ≡ words) }
@@ -115,6 +119,7 @@ impl Region for MemRegion {
         self.present.len() as u32
     }
 
+    #[inline]
     fn read<P: Power>(&mut self, power: &mut P, at: u32) -> Result<u64, DeviceFault> {
         if !power.step(self.device, false) {
             return Err(self.fault());
@@ -122,6 +127,7 @@ impl Region for MemRegion {
         Ok(self.present[at as usize])
     }
 
+    #[inline]
     fn write<P: Power>(&mut self, power: &mut P, at: u32, word: u64) -> Result<(), DeviceFault> {
         if !power.step(self.device, true) {
             self.history.change(&self.present);
@@ -134,6 +140,7 @@ impl Region for MemRegion {
         Ok(())
     }
 
+    #[inline]
     fn persist<P: Power>(&mut self, power: &mut P) -> Result<(), DeviceFault> {
         if !power.step(self.device, true) {
             self.history.change(&self.present);

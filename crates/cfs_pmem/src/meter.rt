@@ -54,6 +54,7 @@ impl Supply {
     ghost use Rattle.cfs_pmem.specs.Meter.{supply_after, is_off};
 
     /// Counts one more step towards the stop.
+    #[inline]
     fn pass(&mut self, writing: bool)
         ensures { self.new ≡ supply_after writing self.old }
     {
@@ -68,6 +69,7 @@ impl Supply {
     }
 
     /// Whether the stop has come.
+    #[inline]
     fn is_off(self) -> bool
         ensures { result ≡ is_off self }
     {
@@ -154,7 +156,8 @@ impl Meter {
     pub fn plan(&mut self, device: u32, writing: bool, k: u64) -> Result<(), AllocError>
         requires { 0 < k }
         ensures ok { OnOk result (self.new ≡ record self.old {
-            plans = self.old.plans ++ record { device = device; writing = writing; passing = k - 1 } ∷ [] }) }
+          plans = self.old.plans ++ record { device = device; writing = writing; passing = k - 1 } ∷ [];
+        }) }
         ensures err { OnErr result (self.new ≡ self.old) }
     {
         self.plans.push(Plan {
@@ -186,6 +189,7 @@ impl Power for Meter {
 
     ghost refused = { λ m. m.refused };
 
+    #[inline]
     fn step(&mut self, device: u32, writing: bool) -> bool
         ensures steps { self.new.steps ≡ with_step device writing self.old.steps }
         ensures later { self.old.refused ≤ self.new.refused }
@@ -199,7 +203,7 @@ impl Power for Meter {
             self.trace.push(device);
         }
         self.supply.pass(writing);
-        let planned = spend(&mut self.plans, device, writing);
+        let planned = !self.plans.is_empty() && spend(&mut self.plans, device, writing);
         let passes = !(planned || self.supply.is_off());
         if !passes {
             self.refused = self.refused.saturating_add(1);

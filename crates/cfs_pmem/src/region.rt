@@ -4,6 +4,7 @@ ghost use Rattle.std.proofs.Math.ListN.{get_or};
 ghost use Rattle.cfs_pmem.specs.Faults.{HasCause};
 ghost use Rattle.cfs_pmem.specs.Images.{WordStep, Seen, words_of, wrote, failed, kept, IsImage, AllImages, IsSure, IsSetFrom, SettingStopped};
 ghost use Rattle.cfs_pmem.specs.Moments.{Moments};
+ghost use Rattle.cfs_pmem.specs.Steps.{StopsIn};
 
 use crate::fault::DeviceFault;
 use crate::power::Power;
@@ -56,13 +57,22 @@ pub trait Region {
 }
 
 /// Sets a word and persists it: two writing steps, or as many as there are up to the one that fails.
-pub fn set_word<R: Region, P: Power>(region: &mut R, power: &mut P, at: u32, word: u64) -> Result<(), DeviceFault>
+#[inline]
+pub fn set_word<R: Region, P: Power>(
+    region: &mut R,
+    power: &mut P,
+    at: u32,
+    word: u64,
+) -> Result<(), DeviceFault>
     requires { at < length (words_of (R.seen region.old)) }
     ensures ok { OnOk result (R.seen region.new ≡ kept (wrote at word (R.seen region.old))) }
     ensures made { OnOk result (P.steps power.new ≡ (R.seen region.old).device ∷ (R.seen region.old).device ∷ P.steps power.old) }
     ensures sure { OnOk result (IsSure (R.seen region.new)) }
-    // A fault came at the write or at the persist.
+    // A fault came at the write or at the persist, and ended the call.
     ensures err { OnErr result (SettingStopped at word (P.steps power.old) (R.seen region.old) (P.steps power.new) (R.seen region.new)) }
+    ensures stopped { OnErr result (StopsIn ((R.seen region.old).device ∷ (R.seen region.old).device ∷ []) (P.steps power.old) (P.steps power.new)) }
+    ensures device { (R.seen region.new).device ≡ (R.seen region.old).device }
+    ensures size { length (words_of (R.seen region.new)) ≡ length (words_of (R.seen region.old)) }
     // At each moment an image is one from before the call, or that with this word set.
     ensures moments { Moments IsImage (IsSetFrom (R.seen region.old) at word)
         (P.steps power.old) (R.seen region.old) (P.steps power.new) (R.seen region.new) }

@@ -39,6 +39,7 @@ impl Trace {
     }
 
     /// Notes a writing step of this device.
+    #[inline]
     pub fn push(&mut self, device: u32)
         ensures { self.new ≡ device ∷ self.old }
     {

@@ -11,13 +11,13 @@ pub loop-i-preserved : goal.loop-i-preserved
 loop-i-preserved c =
     let within : c.loop-i.i < length c.args.present.now.items = search rules in
     let d : c.index.result.now ≡ get_or c.loop-i.durable.items c.loop-i.i 0 =
-      get_or_read c.loop-i.durable.items c.loop-i.i c.index.result.now (omega (arith, c.loop-i.invariant.durable_size)) c.index.ensures 0 in
+    get_or_read c.loop-i.durable.items c.loop-i.i c.index.result.now (omega (arith, c.loop-i.invariant.durable_size)) c.index.ensures 0 in
     let p : c.index-in-loop-i.result.now ≡ get_or c.loop-i.present.items c.loop-i.i 0 =
-      get_or_read c.loop-i.present.items c.loop-i.i c.index-in-loop-i.result.now (omega (arith, c.loop-i.invariant.present_size)) c.index-in-loop-i.ensures 0 in
+    get_or_read c.loop-i.present.items c.loop-i.i c.index-in-loop-i.result.now (omega (arith, c.loop-i.invariant.present_size)) c.index-in-loop-i.ensures 0 in
     leaving_more c.args.pick.now c.args.durable.now.items c.args.present.now.items c.loop-i.pick c.word-word.new.self c.loop-i.durable.items c.loop-i.present.items c.loop-i.i c.word-word.result
-      c.loop-i.invariant within
-      (c.word-word.ensures.word ∙ ap (λ v. word_left c.loop-i.pick v c.index-in-loop-i.result.now) d ∙ ap (λ v. word_left c.loop-i.pick (get_or c.loop-i.durable.items c.loop-i.i 0) v) p)
-      (c.word-word.ensures.pick ∙ ap (λ v. after_word c.loop-i.pick v c.index-in-loop-i.result.now) d ∙ ap (λ v. after_word c.loop-i.pick (get_or c.loop-i.durable.items c.loop-i.i 0) v) p)
+    c.loop-i.invariant within
+    (c.word-word.ensures.word ∙ ap (λ v. word_left c.loop-i.pick v c.index-in-loop-i.result.now) d ∙ ap (λ v. word_left c.loop-i.pick (get_or c.loop-i.durable.items c.loop-i.i 0) v) p)
+    (c.word-word.ensures.pick ∙ ap (λ v. after_word c.loop-i.pick v c.index-in-loop-i.result.now) d ∙ ap (λ v. after_word c.loop-i.pick (get_or c.loop-i.durable.items c.loop-i.i 0) v) p)
 
 pub returns : goal.returns
 returns c =

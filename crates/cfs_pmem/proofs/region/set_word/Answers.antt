@@ -13,7 +13,7 @@ pub returns-in_err-persist-clause-moments : goal.returns-in_err-persist-clause-m
 returns-in_err-persist-clause-moments g c =
     on_failure
     (extended _ (begun _ _ (set_from_same _ c.args.at c.args.word)) c.in_ok-write.ensures.ok c.write.ensures.steps
-      (set_from_wrote _ c.args.at c.args.word c.requires c.in_ok-write.ensures.ok))
+    (set_from_wrote _ c.args.at c.args.word c.requires c.in_ok-write.ensures.ok))
     c.in_err-persist.ensures.err c.persist.ensures.steps
 
 pub returns-in_err-persist-clause-images : goal.returns-in_err-persist-clause-images
@@ -26,7 +26,7 @@ pub returns-clause-moments : goal.returns-clause-moments
 returns-clause-moments g c =
     on_persist
     (extended _ (begun _ _ (set_from_same _ c.args.at c.args.word)) c.in_ok-write.ensures.ok c.write.ensures.steps
-      (set_from_wrote _ c.args.at c.args.word c.requires c.in_ok-write.ensures.ok))
+    (set_from_wrote _ c.args.at c.args.word c.requires c.in_ok-write.ensures.ok))
     c.in_ok-persist.ensures.ok c.persist.ensures.steps
 
 pub returns-clause-images : goal.returns-clause-images

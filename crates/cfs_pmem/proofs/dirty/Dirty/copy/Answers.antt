@@ -9,7 +9,7 @@ returns-then-self g c =
     let durable = c.args.durable.now.items in
     let present = c.args.present.now.items in
     let whole : take from c.deref_mut.result.now ++ (c.copy_from_slice.new.self ++ drop width (drop from c.deref_mut.result.now)) ≡ present =
-      rw (c.copy_from_slice.ensures.after, c.deref_mut.ensures.value, c.deref.ensures.value) (copied c.args.self durable present c.requires c.if-self.true) in
+    rw (c.copy_from_slice.ensures.after, c.deref_mut.ensures.value, c.deref.ensures.value) (copied c.args.self durable present c.requires c.if-self.true) in
     rw whole (written_back c.args.durable.now.len durable present (sym c.requires.size) (search rules))
 
 pub returns-else-self : goal.returns-else-self
