@@ -1,5 +1,5 @@
 -- Images of a region after each kind of writing step.
-use Rattle.std.proofs.Common.{ℕ, ◌<◌, ◌≡◌, ◌≢◌, ◌⊎◌, ◌∙◌, List, [], ◌∷◌, length, get_or, inl, inr, refl, sym, ap, subst, arith, ⊎_elim, get_or-set_same, get_or-set_other, ext_get_or}
+use Rattle.std.proofs.Common.{ℕ, ◌<◌, ◌≡◌, ◌≢◌, ◌∙◌, List, [], ◌∷◌, length, get_or, inl, inr, refl, sym, ap, subst, arith, ⊎_elim, get_or-set_same, get_or-set_other, ext_get_or}
 use Rattle.std.proofs.Math.ListN.{set}
 use Rattle.std.proofs.lemmas.List.{length-set, set-get_or, set-set}
 use Rattle.std.proofs.lemmas.Bool.{cases_eq}

@@ -1,3 +1,4 @@
+pub mod Crashes
 pub mod Ranges
 pub mod ImageLemmas
 pub mod MomentLemmas

@@ -1,5 +1,5 @@
 -- Moments of a call on one device, step by step and call by call.
-use Rattle.std.proofs.Common.{ℕ, zero, suc, ◌+◌, ◌-◌, ◌<◌, ◌≤◌, ◌≡◌, ◌⊎◌, ◌∙◌, List, [], ◌∷◌, ◌++◌, length, drop, inl, inr, refl, sym, ap, subst, arith, append_assoc}
+use Rattle.std.proofs.Common.{ℕ, zero, suc, ◌+◌, ◌-◌, ◌<◌, ◌≤◌, ◌≡◌, ◌∙◌, List, ◌∷◌, ◌++◌, length, drop, inl, inr, refl, sym, ap, subst, arith, append_assoc}
 use Rattle.std.proofs.Math.ListN.{replicate, set}
 use Rattle.std.proofs.lemmas.List.{drop-drop, replicate-append-replicate}
 use Rattle.std.proofs.lemmas.Bool.{cases_lt}

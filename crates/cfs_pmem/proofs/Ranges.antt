@@ -1,6 +1,6 @@
 -- Two copies that differ within a range alone.
 use Rattle.std.proofs.Common.{ℕ, ◌+◌, ◌-◌, ◌<◌, ◌≤◌, ◌≡◌, ◌∙◌, List, ◌++◌, length, take, drop, min, max, [], ap, sym, refl, arith}
-use Rattle.std.proofs.lemmas.List.{drop-drop, take-take, take-append-drop, take-append-le, drop_all, take_all, append_assoc, length-append, length-drop}
+use Rattle.std.proofs.lemmas.List.{drop-drop, take-take, take-append-drop, take-append-le, drop_all, take_all}
 use Rattle.cfs_pmem.specs.declared.dirty.Dirty.{Dirty}
 use Rattle.cfs_pmem.specs.Range.{with_range, DifferWithin}
 

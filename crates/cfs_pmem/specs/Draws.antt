@@ -1,5 +1,5 @@
 -- What a crash picks, word by word: a linear congruential generator with Knuth's constants for MMIX.
-use Rattle.std.specs.Prelude.{ℕ, ◌+◌, ◌*◌, ◌/◌, ◌%◌, ◌^◌, ◌==◌, List, [], ◌∷◌, if◌then◌else◌}
+use Rattle.std.specs.Prelude.{Bool, ℕ, ◌+◌, ◌*◌, ◌/◌, ◌%◌, ◌^◌, ◌==◌, List, [], ◌∷◌, if◌then◌else◌}
 use Rattle.cfs_pmem.specs.declared.pick.Pick.{Pick}
 use Rattle.cfs_pmem.specs.declared.pick.Pick.TheVariants.{Durable, Present, Drawn}
 
@@ -26,25 +26,33 @@ after_word Durable durable present = Durable
 after_word Present durable present = Present
 after_word (Drawn state) durable present = if durable == present then Drawn state else Drawn (next_state state)
 
--- the words that a crash leaves of durable and present ones, in order, and the pick behind them
+-- The same of a byte: where it was in a written range it draws, whatever its two values are, and the draw is the byte.
+abbrev pub byte_left : Bool → Pick → ℕ → ℕ → ℕ
+byte_left written Durable durable present = durable
+byte_left written Present durable present = present
+byte_left written (Drawn state) durable present = if written then draw_of state % 256 else present
+
+abbrev pub after_byte : Bool → Pick → ℕ → ℕ → Pick
+after_byte written Durable durable present = Durable
+after_byte written Present durable present = Present
+after_byte written (Drawn state) durable present = if written then Drawn (next_state state) else Drawn state
+
+-- What a crash leaves of a durable and a present copy from place k on, place by place in order:
+-- `left` says what it leaves at a place, and `next` which pick stands behind it.
+abbrev pub each_left : (ℕ → Pick → ℕ → ℕ → ℕ) → (ℕ → Pick → ℕ → ℕ → Pick) → Pick → ℕ → List ℕ → List ℕ → List ℕ
+each_left left next pick k [] presents = []
+each_left left next pick k (durable ∷ durables) [] = []
+each_left left next pick k (durable ∷ durables) (present ∷ presents) =
+    left k pick durable present ∷ each_left left next (next k pick durable present) (k + 1) durables presents
+
+abbrev pub after_each : (ℕ → Pick → ℕ → ℕ → Pick) → Pick → ℕ → List ℕ → List ℕ → Pick
+after_each next pick k [] presents = pick
+after_each next pick k (durable ∷ durables) [] = pick
+after_each next pick k (durable ∷ durables) (present ∷ presents) = after_each next (next k pick durable present) (k + 1) durables presents
+
+-- the words that a crash leaves of durable and present ones, and the pick behind them
 abbrev pub words_left : Pick → List ℕ → List ℕ → List ℕ
-words_left pick [] presents = []
-words_left pick (durable ∷ durables) [] = []
-words_left pick (durable ∷ durables) (present ∷ presents) =
-    word_left pick durable present ∷ words_left (after_word pick durable present) durables presents
+words_left pick durables presents = each_left (λ k. word_left) (λ k. after_word) pick 0 durables presents
 
 abbrev pub after_words : Pick → List ℕ → List ℕ → Pick
-after_words pick [] presents = pick
-after_words pick (durable ∷ durables) [] = pick
-after_words pick (durable ∷ durables) (present ∷ presents) = after_words (after_word pick durable present) durables presents
-
--- the same of a byte in a written range: each draws, whatever the two are
-abbrev pub byte_left : Pick → ℕ → ℕ → ℕ
-byte_left Durable durable present = durable
-byte_left Present durable present = present
-byte_left (Drawn state) durable present = draw_of state % 256
-
-abbrev pub after_byte : Pick → Pick
-after_byte Durable = Durable
-after_byte Present = Present
-after_byte (Drawn state) = Drawn (next_state state)
+after_words pick durables presents = after_each (λ k. after_word) pick 0 durables presents

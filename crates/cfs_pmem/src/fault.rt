@@ -1,4 +1,6 @@
 //! The one error of a device.
+ghost use Rattle.std.specs.Prelude.{codes, Some};
+
 use std::error::Error;
 use std::fmt;
 
@@ -7,6 +9,8 @@ use std::fmt;
 pub struct DeviceFault;
 
 impl fmt::Display for DeviceFault {
+    ghost output = { λ _. Some (codes "device fault") };
+
     fn fmt<W: fmt::Write>(&self, f: &mut fmt::Formatter<W>) -> fmt::Result {
         write!(f, "device fault")
     }

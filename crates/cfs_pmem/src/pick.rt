@@ -43,15 +43,21 @@ impl Pick {
         }
     }
 
-    /// The byte that a crash leaves of one that was in a range written since the last flush: a draw modulo 256, whether the two differ or not.
-    pub fn byte(&mut self, durable: u8, present: u8) -> u8
-        ensures byte { result ≡ byte_left self.old durable present }
-        ensures pick { self.new ≡ after_byte self.old }
+    /// The byte that a crash leaves. Where it was written since the last flush that succeeded, a draw modulo 256 is the byte, whether the two differ or not.
+    pub fn byte(&mut self, written: bool, durable: u8, present: u8) -> u8
+        ensures byte { result ≡ byte_left written self.old durable present }
+        ensures pick { self.new ≡ after_byte written self.old durable present }
     {
         match self {
             Pick::Durable => durable,
             Pick::Present => present,
-            Pick::Drawn(state) => (draw(state) % 256) as u8,
+            Pick::Drawn(state) => {
+                if written {
+                    (draw(state) % 256) as u8
+                } else {
+                    present
+                }
+            }
         }
     }
 }

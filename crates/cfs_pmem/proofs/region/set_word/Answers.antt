@@ -1,6 +1,3 @@
-use Rattle.std.proofs.Common.{refl}
-use Rattle.cfs_pmem.specs.Images.{IsImage, IsSetFrom, words_of}
-use Rattle.cfs_pmem.specs.Moments.{Moments}
 use Rattle.cfs_pmem.proofs.ImageLemmas.{set_from_same, set_from_wrote, sure_kept}
 use Rattle.cfs_pmem.proofs.MomentLemmas.{begun, extended, on_failure, on_persist, at_end}
 use Rattle.cfs_pmem.proofs.region.set_word.Goals as goal

@@ -1,4 +1,4 @@
-use Rattle.std.proofs.Common.{◌≡◌, ◌∙◌, ◌++◌, ◌-◌, length, ap, arith, take, drop, sym, rules}
+use Rattle.std.proofs.Common.{◌≡◌, ◌++◌, ◌-◌, take, drop, sym, rules}
 use Rattle.cfs_pmem.proofs.Ranges.{copied, same_copies, written_back}
 use Rattle.cfs_pmem.proofs.dirty.Dirty.copy.Goals as goal
 

@@ -1,5 +1,5 @@
 use Rattle.std.proofs.Common.{◌≡◌, ◌∙◌, List, ℕ, length, ap, sym, subst, arith, rules}
-use Rattle.cfs_pmem.specs.Images.{IsImage, MemoryRegion, WordStep, words_of, words_now, words_kept}
+use Rattle.cfs_pmem.specs.Images.{IsImage, MemoryRegion, WordStep, words_now, words_kept}
 use Rattle.cfs_pmem.specs.Draws.{words_left}
 use Rattle.cfs_pmem.proofs.MemRegions.{backed_anew, left_is_image}
 use Rattle.cfs_pmem.proofs.mem_region.MemRegion.crash.Goals as goal
