@@ -1,0 +1,4 @@
+pub mod Bits
+pub mod BlockLemmas
+pub mod Mediums
+pub mod MemBlocks
