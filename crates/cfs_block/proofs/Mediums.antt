@@ -1,8 +1,8 @@
 -- Moments of calls over several objects: one call after another, on one object among others, and beside objects that it leaves alone.
-use Rattle.std.proofs.Common.{ℕ, zero, suc, ◌+◌, ◌-◌, ◌<◌, ◌≤◌, ◌≡◌, ◌≢◌, ◌⊎◌, ◌∙◌, ◌==◌, Bool, true, false, List, [], ◌∷◌, ◌++◌, length, take, drop, if◌then◌else◌, inl, inr, refl, sym, ap, subst, arith, ⊎_elim}
+use Rattle.std.proofs.Common.{ℕ, zero, suc, ◌+◌, ◌-◌, ◌≤◌, ◌≡◌, ◌≢◌, ◌⊎◌, ◌∙◌, List, [], ◌∷◌, ◌++◌, length, take, drop, if◌then◌else◌, inl, inr, refl, sym, ap, subst, arith}
 use Rattle.std.proofs.Math.ListN.{replicate}
 use Rattle.std.proofs.lemmas.List.{drop-drop, drop_at, length-append, length-replicate, take-append-le, take-replicate}
-use Rattle.std.proofs.lemmas.Bool.{cases_lt, cases_eq, eq-eqb, ne_eqb}
+use Rattle.std.proofs.lemmas.Bool.{cases_lt, eq-eqb, ne_eqb}
 use Rattle.cfs_pmem.specs.Images.{WordStep, Seen, IsImage}
 use Rattle.cfs_pmem.specs.Moments.{Moments}
 use Rattle.cfs_block.specs.BlockImages.{BlockStep, Content, IsBlockImage}
@@ -68,20 +68,20 @@ ago-add m n steps (of_block seen) =
 -- before its first step
 pub begun : {P : Medium → Type 0} (steps : List ℕ) (objects : List Object) → ((medium : Medium) → IsMedium 0 steps objects medium → P medium) → AllMoments P steps objects steps objects
 begun {P} steps objects all = record {
-    made = 0;
-    clock = omega arith;
-    steps = refl;
-    before = λ object has. (object, has, ago_now steps object);
-    after = λ now has. subst (λ o. Has objects o) (sym (ago_now steps now)) has;
-    own = λ device none. ap (λ s. own_steps device s) (none-taken steps);
-    each = λ n l medium h. let none : n ≡ 0 = omega arith in all medium (subst (λ k. IsMedium k steps objects medium) none h);
-  }
+  made = 0;
+  clock = omega arith;
+  steps = refl;
+  before = λ object has. (object, has, ago_now steps object);
+  after = λ now has. subst (λ o. Has objects o) (sym (ago_now steps now)) has;
+  own = λ device none. ap (λ s. own_steps device s) (none-taken steps);
+  each = λ n l medium h. let none : n ≡ 0 = omega arith in all medium (subst (λ k. IsMedium k steps objects medium) none h);
+}
 
 -- a device that is none of the objects after a call is none of those before it, and the other way round
 pub none_before : {P : Medium → Type 0} {steps_old steps_new : List ℕ} {old new : List Object} → AllMoments P steps_old old steps_new new → (device : ℕ) → HasNone new device → HasNone old device
 none_before {P} {steps_old} {steps_new} m device none =
     λ object has e. let there = m.before object has in
-      none there.0 there.1 (sym (device_of-ago m.made steps_new there.0) ∙ ap (λ o. device_of o) there.2 ∙ e)
+    none there.0 there.1 (sym (device_of-ago m.made steps_new there.0) ∙ ap (λ o. device_of o) there.2 ∙ e)
 
 pub none_after : {P : Medium → Type 0} {steps_old steps_new : List ℕ} {old new : List Object} → AllMoments P steps_old old steps_new new → (device : ℕ) → HasNone old device → HasNone new device
 none_after {P} {steps_old} {steps_new} m device none =
@@ -89,54 +89,59 @@ none_after {P} {steps_old} {steps_new} m device none =
 
 -- what is possible further back, among the objects of the call before
 earlier_medium : {P : Medium → Type 0} {steps_old steps_new : List ℕ} {old new : List Object} (m : AllMoments P steps_old old steps_new new) (k : ℕ) (medium : Medium)
-  → IsMedium (m.made + k) steps_new new medium → IsMedium k steps_old old medium
+    → IsMedium (m.made + k) steps_new new medium → IsMedium k steps_old old medium
 earlier_medium {P} {steps_old} {steps_new} {old} {new} m k medium h = record {
-    each = λ object has. let there = m.before object has in
+  each = λ object has. let there = m.before object has in
       subst (λ o. IsImageOf o medium)
-        (ago-add m.made k steps_new there.0 ∙ ap (λ s. ago k s (ago m.made steps_new there.0)) m.steps ∙ ap (λ o. ago k steps_old o) there.2)
-        (h.each there.0 there.1);
-  }
+      (ago-add m.made k steps_new there.0 ∙ ap (λ s. ago k s (ago m.made steps_new there.0)) m.steps ∙ ap (λ o. ago k steps_old o) there.2)
+      (h.each there.0 there.1);
+}
 
 -- a call after a call
 pub after : {P : Medium → Type 0} {steps_old steps_mid steps_new : List ℕ} {old mid new : List Object}
-  → AllMoments P steps_old old steps_mid mid → AllMoments P steps_mid mid steps_new new → AllMoments P steps_old old steps_new new
+    → AllMoments P steps_old old steps_mid mid → AllMoments P steps_mid mid steps_new new → AllMoments P steps_old old steps_new new
 after {P} {steps_old} {steps_mid} {steps_new} {old} {mid} {new} a b =
     let back : (now : Object) → ago (b.made + a.made) steps_new now ≡ ago a.made steps_mid (ago b.made steps_new now) =
-      λ now. ago-add b.made a.made steps_new now ∙ ap (λ s. ago a.made s (ago b.made steps_new now)) b.steps in
+    λ now. ago-add b.made a.made steps_new now ∙ ap (λ s. ago a.made s (ago b.made steps_new now)) b.steps in
     record {
       made = b.made + a.made;
       clock = omega (arith, a.clock, b.clock);
       steps = sym (drop-drop a.made b.made steps_new) ∙ ap (λ s. drop a.made s) b.steps ∙ a.steps;
       before = λ object has.
-        let was = a.before object has in
-        let now = b.before was.0 was.1 in
-        (now.0, now.1, back now.0 ∙ ap (λ o. ago a.made steps_mid o) now.2 ∙ was.2);
+          let was = a.before object has in
+          let now = b.before was.0 was.1 in
+          (now.0, now.1, back now.0 ∙ ap (λ o. ago a.made steps_mid o) now.2 ∙ was.2);
       after = λ now has. subst (λ o. Has old o) (sym (back now)) (a.after (ago b.made steps_new now) (b.after now has));
       own = λ device none.
-        own_steps-take-add device b.made a.made steps_new
-        ∙ ap (λ n. n + own_steps device (take a.made (drop b.made steps_new))) (b.own device none)
-        ∙ ap (λ s. 0 + own_steps device (take a.made s)) b.steps
-        ∙ ap (λ n. 0 + n) (a.own device (none_before b device none));
+          own_steps-take-add device b.made a.made steps_new
+          ∙ ap (λ n. n + own_steps device (take a.made (drop b.made steps_new))) (b.own device none)
+          ∙ ap (λ s. 0 + own_steps device (take a.made s)) b.steps
+          ∙ ap (λ n. 0 + n) (a.own device (none_before b device none));
       each = λ n l medium h. elim (cases_lt n b.made) [
-        inl late ↦ b.each n (omega arith) medium h
+        | inl late ↦ b.each n (omega arith) medium h
         | inr early ↦
-          let k : ℕ = n - b.made in
-          let is : n ≡ b.made + k = omega arith in
-          a.each k (omega arith) medium (earlier_medium b k medium (subst (λ i. IsMedium i steps_new new medium) is h))
+            let k : ℕ = n - b.made in
+            let is : n ≡ b.made + k = omega arith in
+            a.each k (omega arith) medium (earlier_medium b k medium (subst (λ i. IsMedium i steps_new new medium) is h))
       ];
     }
 
 -- what is weaker holds at each moment too
 pub weaker : {P Q : Medium → Type 0} {steps_old steps_new : List ℕ} {old new : List Object}
-  → ((medium : Medium) → P medium → Q medium) → AllMoments P steps_old old steps_new new → AllMoments Q steps_old old steps_new new
+    → ((medium : Medium) → P medium → Q medium) → AllMoments P steps_old old steps_new new → AllMoments Q steps_old old steps_new new
 weaker give m = record {
-    made = m.made; clock = m.clock; steps = m.steps; before = m.before; after = m.after; own = m.own;
-    each = λ n l medium h. give medium (m.each n l medium h);
-  }
+  made = m.made;
+  clock = m.clock;
+  steps = m.steps;
+  before = m.before;
+  after = m.after;
+  own = m.own;
+  each = λ n l medium h. give medium (m.each n l medium h);
+}
 
 -- what is possible at the end has P
 pub at_end : {P : Medium → Type 0} {steps_old steps_new : List ℕ} {old new : List Object}
-  → AllMoments P steps_old old steps_new new → (medium : Medium) → IsMedium 0 steps_new new medium → P medium
+    → AllMoments P steps_old old steps_new new → (medium : Medium) → IsMedium 0 steps_new new medium → P medium
 at_end m = λ medium h. m.each 0 (omega arith) medium h
 
 -- One object among others.
@@ -158,12 +163,12 @@ taken made n device steps_old steps_new e l =
 
 -- so many of its own steps ago
 own_ago : {Step : Type 0} (made n : ℕ) (steps_old steps_new : List ℕ) (old new : Seen Step) → steps_new ≡ replicate made old.device ++ steps_old → new.device ≡ old.device → n ≤ made
-  → own_steps new.device (take n steps_new) ≡ n
+    → own_steps new.device (take n steps_new) ≡ n
 own_ago made n steps_old steps_new old new e same l =
     ap (λ d. own_steps d (take n steps_new)) same ∙ ap (λ s. own_steps old.device s) (taken made n old.device steps_old steps_new e l) ∙ own_steps-replicate old.device n
 
 pub region_alone : {Q : List ℕ → Type 0} {steps_old steps_new : List ℕ} {old new : Seen WordStep} → Moments IsImage Q steps_old old steps_new new
-  → Alone (λ medium. Q (medium.words old.device)) steps_old (of_region old) steps_new (of_region new)
+    → Alone (λ medium. Q (medium.words old.device)) steps_old (of_region old) steps_new (of_region new)
 region_alone {Q} {steps_old} {steps_new} {old} {new} m =
     let own : (n : ℕ) → n ≤ m.made → own_steps new.device (take n steps_new) ≡ n = λ n l. own_ago m.made n steps_old steps_new old new m.steps m.same l in
     record {
@@ -171,15 +176,15 @@ region_alone {Q} {steps_old} {steps_new} {old} {new} m =
       steps = m.steps;
       same = m.same;
       before = ap (λ k. of_region (earlier k new)) (own m.made (omega arith))
-        ∙ ap (λ d. of_region record { device = d; history = drop m.made new.history }) m.same
-        ∙ ap (λ h. of_region record { device = old.device; history = h }) m.before;
+          ∙ ap (λ d. of_region record { device = d; history = drop m.made new.history }) m.same
+          ∙ ap (λ h. of_region record { device = old.device; history = h }) m.before;
       each = λ n l medium h.
-        m.each n l (medium.words old.device)
-        (subst (λ d. IsImage (drop n new.history) (medium.words d)) m.same (subst (λ k. IsImage (drop k new.history) (medium.words new.device)) (own n l) h));
+          m.each n l (medium.words old.device)
+          (subst (λ d. IsImage (drop n new.history) (medium.words d)) m.same (subst (λ k. IsImage (drop k new.history) (medium.words new.device)) (own n l) h));
     }
 
 pub block_alone : {Q : Content → Type 0} {steps_old steps_new : List ℕ} {old new : Seen BlockStep} → Moments IsBlockImage Q steps_old old steps_new new
-  → Alone (λ medium. Q (medium.blocks old.device)) steps_old (of_block old) steps_new (of_block new)
+    → Alone (λ medium. Q (medium.blocks old.device)) steps_old (of_block old) steps_new (of_block new)
 block_alone {Q} {steps_old} {steps_new} {old} {new} m =
     let own : (n : ℕ) → n ≤ m.made → own_steps new.device (take n steps_new) ≡ n = λ n l. own_ago m.made n steps_old steps_new old new m.steps m.same l in
     record {
@@ -187,40 +192,42 @@ block_alone {Q} {steps_old} {steps_new} {old} {new} m =
       steps = m.steps;
       same = m.same;
       before = ap (λ k. of_block (earlier k new)) (own m.made (omega arith))
-        ∙ ap (λ d. of_block record { device = d; history = drop m.made new.history }) m.same
-        ∙ ap (λ h. of_block record { device = old.device; history = h }) m.before;
+          ∙ ap (λ d. of_block record { device = d; history = drop m.made new.history }) m.same
+          ∙ ap (λ h. of_block record { device = old.device; history = h }) m.before;
       each = λ n l medium h.
-        m.each n l (medium.blocks old.device)
-        (subst (λ d. IsBlockImage (drop n new.history) (medium.blocks d)) m.same (subst (λ k. IsBlockImage (drop k new.history) (medium.blocks new.device)) (own n l) h));
+          m.each n l (medium.blocks old.device)
+          (subst (λ d. IsBlockImage (drop n new.history) (medium.blocks d)) m.same (subst (λ k. IsBlockImage (drop k new.history) (medium.blocks new.device)) (own n l) h));
     }
 
 pub among : {Q P : Medium → Type 0} {steps_old steps_new : List ℕ} {old new : Object} (others : List Object) → Alone Q steps_old old steps_new new → HasNone others (device_of old)
-  → ((medium : Medium) → Q medium → IsMedium 0 steps_old others medium → P medium) → AllMoments P steps_old (old ∷ others) steps_new (new ∷ others)
+    → ((medium : Medium) → Q medium → IsMedium 0 steps_old others medium → P medium) → AllMoments P steps_old (old ∷ others) steps_new (new ∷ others)
 among {Q} {P} {steps_old} {steps_new} {old} {new} others m apart give =
     let d : ℕ = device_of old in
     -- the other objects are as they were, at each moment
     let stays : (n : ℕ) → n ≤ m.made → (object : Object) → Has others object → ago n steps_new object ≡ object =
-      λ n l object has. ago_none n steps_new object
-        (ap (λ s. own_steps (device_of object) s) (taken m.made n d steps_old steps_new m.steps l) ∙ own_steps-other (device_of object) d n (λ e. apart object has (sym e))) in
+    λ n l object has. ago_none n steps_new object
+    (ap (λ s. own_steps (device_of object) s) (taken m.made n d steps_old steps_new m.steps l) ∙ own_steps-other (device_of object) d n (λ e. apart object has (sym e))) in
     record {
       made = m.made;
       clock = ap (λ (s : List ℕ). length s) m.steps ∙ length-append (replicate m.made d) steps_old ∙ ap (λ n. n + length steps_old) (length-replicate m.made d);
       steps = ap (λ s. drop m.made s) m.steps ∙ drop_at (replicate m.made d) steps_old m.made (length-replicate m.made d);
       before = λ object has. elim has as (λ _. (now : Object) × Has (new ∷ others) now × (ago m.made steps_new now ≡ object)) [
-        inl same ↦ (new, inl refl, m.before ∙ sym same)
+        | inl same ↦ (new, inl refl, m.before ∙ sym same)
         | inr there ↦ (object, inr there, stays m.made (omega arith) object there)
       ];
       after = λ now has. elim has as (λ _. Has (old ∷ others) (ago m.made steps_new now)) [
-        inl same ↦ inl (ap (λ o. ago m.made steps_new o) same ∙ m.before)
+        | inl same ↦ inl (ap (λ o. ago m.made steps_new o) same ∙ m.before)
         | inr there ↦ inr (subst (λ o. Has others o) (sym (stays m.made (omega arith) now there)) there)
       ];
       own = λ device none.
-        ap (λ s. own_steps device s) (taken m.made m.made d steps_old steps_new m.steps (omega arith)) ∙ own_steps-other device d m.made (λ e. none new (inl refl) (m.same ∙ e));
+          ap (λ s. own_steps device s) (taken m.made m.made d steps_old steps_new m.steps (omega arith)) ∙ own_steps-other device d m.made (λ e. none new (inl refl) (m.same ∙ e));
       each = λ n l medium h.
-        give medium
-        (m.each n l medium (h.each new (inl refl)))
-        record { each = λ object has.
-          subst (λ o. IsImageOf o medium) (stays n l object has ∙ sym (ago_now steps_old object)) (h.each object (inr has)) };
+          give medium
+          (m.each n l medium (h.each new (inl refl)))
+          record {
+            each = λ object has.
+                subst (λ o. IsImageOf o medium) (stays n l object has ∙ sym (ago_now steps_old object)) (h.each object (inr has));
+          };
     }
 
 -- Objects that a call leaves alone.
@@ -228,9 +235,9 @@ among {Q} {P} {steps_old} {steps_new} {old} {new} others m apart give =
 has_append : (first second : List Object) (object : Object) → Has (first ++ second) object → Has first object ⊎ Has second object
 has_append [] second object has = inr has
 has_append (o ∷ first) second object has = elim has as (λ _. Has (o ∷ first) object ⊎ Has second object) [
-    inl same ↦ inl (inl same)
-    | inr there ↦ elim (has_append first second object there) as (λ _. Has (o ∷ first) object ⊎ Has second object) [ inl one ↦ inl (inr one) | inr two ↦ inr two ]
-  ]
+  | inl same ↦ inl (inl same)
+  | inr there ↦ elim (has_append first second object there) as (λ _. Has (o ∷ first) object ⊎ Has second object) [ inl one ↦ inl (inr one) | inr two ↦ inr two ]
+]
 
 has_left : (first second : List Object) (object : Object) → Has first object → Has (first ++ second) object
 has_left [] second object has = absurd has
@@ -241,37 +248,39 @@ has_right [] second object has = has
 has_right (o ∷ first) second object has = inr (has_right first second object has)
 
 pub beside : {P Q : Medium → Type 0} {steps_old steps_new : List ℕ} {old new : List Object} (others : List Object) → AllMoments P steps_old old steps_new new
-  → ((object : Object) → Has others object → HasNone old (device_of object))
-  → ((medium : Medium) → P medium → IsMedium 0 steps_old others medium → Q medium) → AllMoments Q steps_old (old ++ others) steps_new (new ++ others)
+    → ((object : Object) → Has others object → HasNone old (device_of object))
+    → ((medium : Medium) → P medium → IsMedium 0 steps_old others medium → Q medium) → AllMoments Q steps_old (old ++ others) steps_new (new ++ others)
 beside {P} {Q} {steps_old} {steps_new} {old} {new} others m apart give =
     let none : (n : ℕ) → n ≤ m.made → (object : Object) → Has others object → own_steps (device_of object) (take n steps_new) ≡ 0 =
-      λ n l object has.
-        let all : own_steps (device_of object) (take m.made steps_new) ≡ 0 = m.own (device_of object) (none_after m (device_of object) (apart object has)) in
-        let k : ℕ = m.made - n in
-        let is : n + k ≡ m.made = omega arith in
-        let split : own_steps (device_of object) (take n steps_new) + own_steps (device_of object) (take k (drop n steps_new)) ≡ 0 =
-          sym (own_steps-take-add (device_of object) n k steps_new) ∙ ap (λ i. own_steps (device_of object) (take i steps_new)) is ∙ all in
-        omega (arith, split) in
+    λ n l object has.
+    let all : own_steps (device_of object) (take m.made steps_new) ≡ 0 = m.own (device_of object) (none_after m (device_of object) (apart object has)) in
+    let k : ℕ = m.made - n in
+    let is : n + k ≡ m.made = omega arith in
+    let split : own_steps (device_of object) (take n steps_new) + own_steps (device_of object) (take k (drop n steps_new)) ≡ 0 =
+    sym (own_steps-take-add (device_of object) n k steps_new) ∙ ap (λ i. own_steps (device_of object) (take i steps_new)) is ∙ all in
+    omega (arith, split) in
     let stays : (n : ℕ) → n ≤ m.made → (object : Object) → Has others object → ago n steps_new object ≡ object =
-      λ n l object has. ago_none n steps_new object (none n l object has) in
+    λ n l object has. ago_none n steps_new object (none n l object has) in
     record {
       made = m.made;
       clock = m.clock;
       steps = m.steps;
       before = λ object has. elim (has_append old others object has) as (λ _. (now : Object) × Has (new ++ others) now × (ago m.made steps_new now ≡ object)) [
-        inl one ↦ let there = m.before object one in (there.0, has_left new others there.0 there.1, there.2)
+        | inl one ↦ let there = m.before object one in (there.0, has_left new others there.0 there.1, there.2)
         | inr two ↦ (object, has_right new others object two, stays m.made (omega arith) object two)
       ];
       after = λ now has. elim (has_append new others now has) as (λ _. Has (old ++ others) (ago m.made steps_new now)) [
-        inl one ↦ has_left old others (ago m.made steps_new now) (m.after now one)
+        | inl one ↦ has_left old others (ago m.made steps_new now) (m.after now one)
         | inr two ↦ has_right old others (ago m.made steps_new now) (subst (λ o. Has others o) (sym (stays m.made (omega arith) now two)) two)
       ];
       own = λ device none. m.own device (λ object has. none object (has_left new others object has));
       each = λ n l medium h.
-        give medium
-        (m.each n l medium record { each = λ object has. h.each object (has_left new others object has) })
-        record { each = λ object has.
-          subst (λ o. IsImageOf o medium) (stays n l object has ∙ sym (ago_now steps_old object)) (h.each object (has_right new others object has)) };
+          give medium
+          (m.each n l medium record { each = λ object has. h.each object (has_left new others object has) })
+          record {
+            each = λ object has.
+                subst (λ o. IsImageOf o medium) (stays n l object has ∙ sym (ago_now steps_old object)) (h.each object (has_right new others object has));
+          };
     }
 
 -- The same objects in another order.
@@ -281,16 +290,16 @@ pub record SameObjects (first second : List Object) : Type 0 where
   pub back : (object : Object) → Has second object → Has first object
 
 pub in_order : {P : Medium → Type 0} {steps_old steps_new : List ℕ} {old new old' new' : List Object} → SameObjects old old' → SameObjects new new'
-  → AllMoments P steps_old old steps_new new → AllMoments P steps_old old' steps_new new'
+    → AllMoments P steps_old old steps_new new → AllMoments P steps_old old' steps_new new'
 in_order {P} {steps_old} {steps_new} o n m = record {
-    made = m.made;
-    clock = m.clock;
-    steps = m.steps;
-    before = λ object has. let there = m.before object (o.back object has) in (there.0, n.there there.0 there.1, there.2);
-    after = λ now has. o.there (ago m.made steps_new now) (m.after now (n.back now has));
-    own = λ device none. m.own device (λ object has. none object (n.there object has));
-    each = λ k l medium h. m.each k l medium record { each = λ object has. h.each object (n.there object has) };
-  }
+  made = m.made;
+  clock = m.clock;
+  steps = m.steps;
+  before = λ object has. let there = m.before object (o.back object has) in (there.0, n.there there.0 there.1, there.2);
+  after = λ now has. o.there (ago m.made steps_new now) (m.after now (n.back now has));
+  own = λ device none. m.own device (λ object has. none object (n.there object has));
+  each = λ k l medium h. m.each k l medium record { each = λ object has. h.each object (n.there object has) };
+}
 
 -- Values that stay.
 
@@ -300,22 +309,22 @@ as_it_was value steps old medium h = record { first = medium; possible = h; else
 
 -- a call that keeps a value after a call that does
 pub chained : {X : Type 0} {value : Medium → X} {steps_old steps_mid steps_new : List ℕ} {old mid new : List Object}
-  → Keeps value steps_old old steps_mid mid → Keeps value steps_mid mid steps_new new → Keeps value steps_old old steps_new new
+    → Keeps value steps_old old steps_mid mid → Keeps value steps_mid mid steps_new new → Keeps value steps_old old steps_new new
 chained {X} {value} {steps_old} {steps_mid} {steps_new} {old} {mid} {new} a b =
     after a (weaker (λ medium later.
-      let first = at_end a later.first later.possible in
-      record {
-        first = first.first;
-        possible = first.possible;
-        elsewhere = record {
-          words = λ device none. first.elsewhere.words device none ∙ later.elsewhere.words device (none_after a device none);
-          blocks = λ device none. first.elsewhere.blocks device none ∙ later.elsewhere.blocks device (none_after a device none);
-        };
-        same = later.same ∙ first.same;
-      }) b)
+    let first = at_end a later.first later.possible in
+    record {
+      first = first.first;
+      possible = first.possible;
+      elsewhere = record {
+        words = λ device none. first.elsewhere.words device none ∙ later.elsewhere.words device (none_after a device none);
+        blocks = λ device none. first.elsewhere.blocks device none ∙ later.elsewhere.blocks device (none_after a device none);
+      };
+      same = later.same ∙ first.same;
+    }) b)
 
 image_elsewhere : (objects : List Object) (first second : Medium) (steps : List ℕ) (object : Object) → AgreeElsewhere objects first second → HasNone objects (device_of object)
-  → IsImageOf (ago 0 steps object) second → IsImageOf (ago 0 steps object) first
+    → IsImageOf (ago 0 steps object) second → IsImageOf (ago 0 steps object) first
 image_elsewhere objects first second steps (of_region seen) agree none h =
     subst (λ words. IsImage (drop (own_steps seen.device (take 0 steps)) seen.history) words) (sym (agree.words seen.device none)) h
 image_elsewhere objects first second steps (of_block seen) agree none h =
@@ -323,14 +332,16 @@ image_elsewhere objects first second steps (of_block seen) agree none h =
 
 -- a call that keeps a value, beside objects that it leaves alone
 pub framed : {X : Type 0} {value : Medium → X} {steps_old steps_new : List ℕ} {old new : List Object} (others : List Object)
-  → ((object : Object) → Has others object → HasNone old (device_of object)) → Keeps value steps_old old steps_new new → Keeps value steps_old (old ++ others) steps_new (new ++ others)
+    → ((object : Object) → Has others object → HasNone old (device_of object)) → Keeps value steps_old old steps_new new → Keeps value steps_old (old ++ others) steps_new (new ++ others)
 framed {X} {value} {steps_old} {steps_new} {old} {new} others apart m =
     beside others m apart (λ medium from h. record {
       first = from.first;
-      possible = record { each = λ object has. elim (has_append old others object has) as (λ _. IsImageOf (ago 0 steps_old object) from.first) [
-        inl one ↦ from.possible.each object one
-        | inr two ↦ image_elsewhere old from.first medium steps_old object from.elsewhere (apart object two) (h.each object two)
-      ] };
+      possible = record {
+        each = λ object has. elim (has_append old others object has) as (λ _. IsImageOf (ago 0 steps_old object) from.first) [
+          | inl one ↦ from.possible.each object one
+          | inr two ↦ image_elsewhere old from.first medium steps_old object from.elsewhere (apart object two) (h.each object two)
+        ];
+      };
       elsewhere = record {
         words = λ device none. from.elsewhere.words device (λ object has. none object (has_left old others object has));
         blocks = λ device none. from.elsewhere.blocks device (λ object has. none object (has_left old others object has));
@@ -339,7 +350,7 @@ framed {X} {value} {steps_old} {steps_new} {old} {new} others apart m =
     })
 
 pub keeps_in_order : {X : Type 0} {value : Medium → X} {steps_old steps_new : List ℕ} {old new old' new' : List Object} → SameObjects old old' → SameObjects new new'
-  → Keeps value steps_old old steps_new new → Keeps value steps_old old' steps_new new'
+    → Keeps value steps_old old steps_new new → Keeps value steps_old old' steps_new new'
 keeps_in_order {X} {value} o n m =
     in_order o n (weaker (λ medium from. record {
       first = from.first;
@@ -353,5 +364,5 @@ keeps_in_order {X} {value} o n m =
 
 -- what follows from a value that is kept is kept
 pub revalued : {X Y : Type 0} {value : Medium → X} (of : X → Y) {steps_old steps_new : List ℕ} {old new : List Object}
-  → Keeps value steps_old old steps_new new → Keeps (λ medium. of (value medium)) steps_old old steps_new new
+    → Keeps value steps_old old steps_new new → Keeps (λ medium. of (value medium)) steps_old old steps_new new
 revalued of m = weaker (λ medium from. record { first = from.first; possible = from.possible; elsewhere = from.elsewhere; same = ap of from.same }) m

@@ -1,5 +1,5 @@
 -- What a block holds, and what a crash may leave of it, as definitions over the history of its writing steps.
-use Rattle.std.specs.Prelude.{ℕ, ◌+◌, ◌<◌, ◌≤◌, ◌≡◌, ◌⊎◌, List, [], ◌∷◌, ◌++◌, length, take, drop, All}
+use Rattle.std.specs.Prelude.{ℕ, ◌+◌, ◌<◌, ◌≤◌, ◌≡◌, ◌⊎◌, List, [], ◌∷◌, ◌++◌, length, take, drop}
 use Rattle.std.proofs.Math.ListN.{get_or, replicate}
 use Rattle.cfs_pmem.specs.Images.{Seen, stepped}
 
@@ -106,13 +106,17 @@ AllBlockImages seen P = (image : Content) → IsBlockImage seen.history image �
 abbrev pub IsSureBlock : Seen BlockStep → Type 0
 IsSureBlock seen = AllBlockImages seen (λ image. image ≡ content_of seen)
 
--- An image of that block, with any bytes in the range. Its tag and the bytes outside are that image's.
+-- the two have the same tag, and the same bytes outside the range
+pub record DiffersWithin (from len : ℕ) (first image : Content) : Type 0 where
+  pub tag : image.tag ≡ first.tag
+  pub size : length image.bytes ≡ length first.bytes
+  pub outside : (k : ℕ) → (k < from) ⊎ (from + len ≤ k) → get_or image.bytes k 0 ≡ get_or first.bytes k 0
+
+-- an image of that block, with any bytes in the range
 pub record IsRangedFrom (seen : Seen BlockStep) (from len : ℕ) (image : Content) : Type 0 where
   pub first : Content
   pub possible : IsBlockImage seen.history first
-  pub same_tag : image.tag ≡ first.tag
-  pub size : length image.bytes ≡ length first.bytes
-  pub outside : (k : ℕ) → (k < from) ⊎ (from + len ≤ k) → get_or image.bytes k 0 ≡ get_or first.bytes k 0
+  pub within : DiffersWithin from len first image
 
 -- an image of that block, or one with this tag
 pub record IsTaggedFrom (seen : Seen BlockStep) (tag : ℕ) (image : Content) : Type 0 where
@@ -120,10 +124,14 @@ pub record IsTaggedFrom (seen : Seen BlockStep) (tag : ℕ) (image : Content) : 
   pub possible : IsBlockImage seen.history first
   pub same : (image ≡ first) ⊎ (image ≡ with_tag tag first)
 
+-- Of a call that sets a tag and flushes it: it stopped at the tag, which stands or not, or at the flush.
+abbrev pub RetagStopped : ℕ → List ℕ → Seen BlockStep → List ℕ → Seen BlockStep → Type 0
+RetagStopped tag steps_old old steps_new new =
+    (IsHalfTagged tag old new × (steps_new ≡ old.device ∷ steps_old)) ⊎ ((new ≡ unflushed (retagged tag old)) × (steps_new ≡ old.device ∷ old.device ∷ steps_old))
+
 -- no file has the block
 abbrev pub IsUntagged : Content → Type 0
 IsUntagged content = content.tag ≡ 0
 
 abbrev pub IsZero : Content → Type 0
 IsZero content = content ≡ record { tag = 0; bytes = replicate 4096 0 }
-

@@ -26,4 +26,4 @@ block_left pick history = let kept : Content = content_kept history in let now :
 
 abbrev pub after_block : Pick → List BlockStep → Pick
 after_block pick history = let kept : Content = content_kept history in let now : Content = content_now history in
-  after_each (λ k. after_byte (is_written history k)) (after_word pick kept.tag now.tag) 0 kept.bytes now.bytes
+    after_each (λ k. after_byte (is_written history k)) (after_word pick kept.tag now.tag) 0 kept.bytes now.bytes

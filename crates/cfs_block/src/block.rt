@@ -1,8 +1,10 @@
 //! A block of bytes.
-ghost use Rattle.std.specs.Prelude.{◌≡◌, ◌+◌, ◌≤◌, ◌∷◌, ℕ, Bool, IsTrue, length, take, drop, IfOk, OnOk, OnErr};
+ghost use Rattle.std.specs.Prelude.{◌≡◌, ◌+◌, ◌≤◌, [], ◌∷◌, ℕ, Bool, IsTrue, length, take, drop, IfOk, OnOk, OnErr};
 ghost use Rattle.cfs_pmem.specs.Faults.{HasCause};
 ghost use Rattle.cfs_pmem.specs.Images.{Seen};
-ghost use Rattle.cfs_block.specs.BlockImages.{BlockStep, content_of, wrote, retagged, kept, unflushed, IsTorn, IsHalfTagged};
+ghost use Rattle.cfs_pmem.specs.Moments.{Moments};
+ghost use Rattle.cfs_pmem.specs.Steps.{StopsIn};
+ghost use Rattle.cfs_block.specs.BlockImages.{BlockStep, content_of, wrote, retagged, kept, unflushed, IsTorn, IsHalfTagged, RetagStopped, IsBlockImage, AllBlockImages, IsSureBlock, IsTaggedFrom};
 
 use cfs_pmem::{DeviceFault, Power};
 
@@ -30,7 +32,12 @@ pub trait Block {
         ensures { result ≡ number self.now };
 
     /// Reads the bytes from `from` on that `out` has room for, by a reading step. A fault leaves `out` as it was.
-    fn read<P: Power>(&mut self, power: &mut P, from: u32, out: &mut [u8]) -> Result<(), DeviceFault>
+    fn read<P: Power>(
+        &mut self,
+        power: &mut P,
+        from: u32,
+        out: &mut [u8],
+    ) -> Result<(), DeviceFault>
         requires { from + length out.old ≤ 4096 }
         ensures ok { OnOk result (out.new ≡ take (length out.old) (drop from (content_of (seen self.old)).bytes)) }
         ensures err { OnErr result (out.new ≡ out.old) }
@@ -84,3 +91,25 @@ pub trait Block {
 
 /// How many bytes a block has.
 pub const BLOCK_LEN: usize = 4096;
+
+/// Sets the tag and flushes it: two writing steps, or as many as there are up to the one that fails.
+#[inline]
+pub fn retag<B: Block, P: Power>(block: &mut B, power: &mut P, tag: u64) -> Result<(), DeviceFault>
+    ensures ok { OnOk result (B.seen block.new ≡ kept (retagged tag (B.seen block.old))) }
+    ensures made { OnOk result (P.steps power.new ≡ (B.seen block.old).device ∷ (B.seen block.old).device ∷ P.steps power.old) }
+    ensures sure { OnOk result (IsSureBlock (B.seen block.new)) }
+    // A fault came at the tag or at the flush, and ended the call.
+    ensures err { OnErr result (RetagStopped tag (P.steps power.old) (B.seen block.old) (P.steps power.new) (B.seen block.new)) }
+    ensures stopped { OnErr result (StopsIn ((B.seen block.old).device ∷ (B.seen block.old).device ∷ []) (P.steps power.old) (P.steps power.new)) }
+    ensures device { (B.seen block.new).device ≡ (B.seen block.old).device }
+    ensures number { B.number block.new ≡ B.number block.old }
+    // At each moment an image is one from before the call, or that with this tag.
+    ensures moments { Moments IsBlockImage (IsTaggedFrom (B.seen block.old) tag) (P.steps power.old) (B.seen block.old) (P.steps power.new) (B.seen block.new) }
+    ensures images { AllBlockImages (B.seen block.new) (IsTaggedFrom (B.seen block.old) tag) }
+    ensures cause { HasCause (B.faults block.old) (B.faults block.new) result }
+    ensures power { IsTrue B.obeys_power → HasCause (P.refused power.old) (P.refused power.new) result }
+{
+    block.set_tag(power, tag)?;
+    block.flush(power)?;
+    Ok(())
+}

@@ -39,7 +39,11 @@ impl BlockHistory {
         ensures { result ≡ flushed record { tag = tag; bytes = bytes.now.items } ∷ [] }
     {
         BlockHistory {
-            past: Snapshot::of(&Past::Flushed(tag, Snapshot::of(bytes), Snapshot::of(&Past::Start))),
+            past: Snapshot::of(&Past::Flushed(
+                tag,
+                Snapshot::of(bytes),
+                Snapshot::of(&Past::Start),
+            )),
         }
     }
 

@@ -7,7 +7,7 @@ mod history;
 mod mem_block;
 mod written;
 
-pub use block::{BLOCK_LEN, Block};
+pub use block::{BLOCK_LEN, Block, retag};
 pub use free_block::{FreeBlock, ZeroBlock};
 pub use history::BlockHistory;
 pub use mem_block::MemBlock;

@@ -33,14 +33,23 @@ impl MemBlock {
     ghost use Rattle.cfs_block.specs.MemoryBlocks.{seen_of, number_of, faults_of};
 
     /// A block of this content, which is durable. Without memory for the second copy and the bits the bytes are given back.
-    pub fn new(alloc: Global, device: u32, number: u32, tag: u64, bytes: Vec<u8>) -> Result<MemBlock, AllocFailed<Vec<u8>>>
+    pub fn new(
+        alloc: Global,
+        device: u32,
+        number: u32,
+        tag: u64,
+        bytes: Vec<u8>,
+    ) -> Result<MemBlock, AllocFailed<Vec<u8>>>
         requires { vec_len bytes ≡ 4096 }
         ensures ok { IfOk result (λ block. seen_of block ≡ began device record { tag = tag; bytes = bytes.items }) }
         ensures number { IfOk result (λ block. number_of block ≡ number) }
         ensures faults { IfOk result (λ block. faults_of block ≡ 0) }
         ensures err { IfErr result (λ refused. refused.value ≡ bytes) }
     {
-        match (Vec::from_slice(alloc, &bytes), vec![in alloc; 0; BLOCK_LEN / 64]) {
+        match (
+            Vec::from_slice(alloc, &bytes),
+            vec![in alloc; 0; BLOCK_LEN / 64],
+        ) {
             (Ok(durable), Ok(written)) => Ok(MemBlock {
                 device,
                 number,
@@ -134,7 +143,12 @@ impl Block for MemBlock {
         self.number
     }
 
-    fn read<P: Power>(&mut self, power: &mut P, from: u32, out: &mut [u8]) -> Result<(), DeviceFault> {
+    fn read<P: Power>(
+        &mut self,
+        power: &mut P,
+        from: u32,
+        out: &mut [u8],
+    ) -> Result<(), DeviceFault> {
         if !power.step(self.device, false) {
             self.faults = self.faults.saturating_add(1);
             return Err(DeviceFault);
@@ -144,19 +158,26 @@ impl Block for MemBlock {
         Ok(())
     }
 
-    fn write<P: Power>(&mut self, power: &mut P, from: u32, bytes: &[u8]) -> Result<(), DeviceFault> {
+    fn write<P: Power>(
+        &mut self,
+        power: &mut P,
+        from: u32,
+        bytes: &[u8],
+    ) -> Result<(), DeviceFault> {
         let from = from as usize;
         let to = from + bytes.len();
         // A crash may leave any bytes in the range, also of a write that failed.
         written::set_range(&mut self.written, from, to);
         if !power.step(self.device, true) {
             self.faults = self.faults.saturating_add(1);
-            self.history.range(from, bytes.len(), self.tag, &self.present);
+            self.history
+                .range(from, bytes.len(), self.tag, &self.present);
             return Err(DeviceFault);
         }
         put(&mut self.present, from, bytes);
         self.dirty.add(from, to);
-        self.history.range(from, bytes.len(), self.tag, &self.present);
+        self.history
+            .range(from, bytes.len(), self.tag, &self.present);
         Ok(())
     }
 

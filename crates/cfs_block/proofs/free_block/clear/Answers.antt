@@ -1,8 +1,8 @@
-use Rattle.std.proofs.Common.{ℕ, ◌+◌, ◌<◌, ◌≤◌, ◌≡◌, length, refl, arith}
+use Rattle.std.proofs.Common.{◌≡◌, length, refl, arith}
 use Rattle.cfs_pmem.proofs.MomentLemmas.{begun, extended, at_end}
 use Rattle.cfs_block.specs.declared.free_block.TheConstants.{ZEROS}
 use Rattle.cfs_block.specs.BlockImages.{IsUntagged, content_of}
-use Rattle.cfs_block.proofs.BlockLemmas.{all_torn, all_wrote, all_unflushed, all_kept, length-patched, untagged_ranged, now_is_image, zeroed}
+use Rattle.cfs_block.proofs.BlockLemmas.{all_torn, all_wrote, all_unflushed, all_kept, untagged_ranged, now_is_image, zeroed}
 use Rattle.cfs_block.proofs.free_block.clear.Goals as goal
 
 pub returns-in_err-write-clause-untagged : goal.returns-in_err-write-clause-untagged
@@ -23,8 +23,8 @@ returns-in_err-flush-clause-moments g c =
     let full_mid : length (content_of mid).bytes ≡ 4096 = g.met.B.Block.full c.write.new.self in
     let untagged = untagged_ranged old mid 0 4096 (all_wrote old 0 ZEROS (omega arith) (omega arith) c.in_ok-write.ensures.ok) c.requires in
     extended _ (extended _ (begun _ _ c.requires) c.in_ok-write.ensures.ok c.write.ensures.steps untagged)
-      c.in_err-flush.ensures.err c.flush.ensures.steps
-      (all_unflushed (λ image. IsUntagged image) mid (omega arith) c.in_err-flush.ensures.err untagged)
+    c.in_err-flush.ensures.err c.flush.ensures.steps
+    (all_unflushed (λ image. IsUntagged image) mid (omega arith) c.in_err-flush.ensures.err untagged)
 
 pub returns-in_err-flush-clause-untagged : goal.returns-in_err-flush-clause-untagged
 returns-in_err-flush-clause-untagged g c = at_end (returns-in_err-flush-clause-moments g c)
@@ -44,5 +44,5 @@ returns-clause-moments g c =
     let full_mid : length (content_of mid).bytes ≡ 4096 = g.met.B.Block.full c.write.new.self in
     let untagged = untagged_ranged old mid 0 4096 (all_wrote old 0 ZEROS (omega arith) (omega arith) c.in_ok-write.ensures.ok) c.requires in
     extended _ (extended _ (begun _ _ c.requires) c.in_ok-write.ensures.ok c.write.ensures.steps untagged)
-      c.in_ok-flush.ensures.ok c.flush.ensures.steps
-      (all_kept (λ image. IsUntagged image) mid c.in_ok-flush.ensures.ok (untagged (content_of mid) (now_is_image mid.history (omega arith))))
+    c.in_ok-flush.ensures.ok c.flush.ensures.steps
+    (all_kept (λ image. IsUntagged image) mid c.in_ok-flush.ensures.ok (untagged (content_of mid) (now_is_image mid.history (omega arith))))

@@ -2,7 +2,7 @@ use Rattle.std.proofs.Common.{◌≡◌, ◌∙◌, List, ℕ, [], ◌∷◌, ap
 use Rattle.cfs_pmem.specs.declared.pick.Pick.{Pick}
 use Rattle.cfs_pmem.specs.Draws.{after_word, byte_left, after_byte, each_left, after_each}
 use Rattle.cfs_block.specs.BlockImages.{BlockStep, Content, IsBlockImage, flushed, content_now}
-use Rattle.cfs_block.specs.Written.{is_set, block_left, after_block}
+use Rattle.cfs_block.specs.Written.{is_set, block_left}
 use Rattle.cfs_block.proofs.MemBlocks.{left_is, left_is_image}
 use Rattle.cfs_block.proofs.mem_block.MemBlock.crash.Goals as goal
 
@@ -14,8 +14,8 @@ content_left c =
     let n : ℕ → Pick → ℕ → ℕ → Pick = λ k. after_byte (is_set was.written.items k) in
     let left = left_is was.history was.dirty record { tag = was.durable_tag; bytes = was.durable.items } record { tag = was.tag; bytes = was.present.items } was.written.items c.args.pick.now was.backed in
     ap (λ (bs : List ℕ). record { tag = c.word-self.result; bytes = bs }) (c.leave.ensures.present ∙ ap (λ p. each_left w n p 0 was.durable.items was.present.items) c.word-self.ensures.pick)
-      ∙ ap (λ (t : ℕ). record { tag = t; bytes = each_left w n (after_word c.args.pick.now was.durable_tag was.tag) 0 was.durable.items was.present.items }) c.word-self.ensures.word
-      ∙ left.0
+    ∙ ap (λ (t : ℕ). record { tag = t; bytes = each_left w n (after_word c.args.pick.now was.durable_tag was.tag) 0 was.durable.items was.present.items }) c.word-self.ensures.word
+    ∙ left.0
 
 pub returns-clause-left : goal.returns-clause-left
 returns-clause-left c = ap (λ (h : List BlockStep). record { device = c.args.self.now.device; history = h }) (c.of.ensures ∙ ap (λ (x : Content). flushed x ∷ []) (content_left c))
