@@ -44,6 +44,7 @@ pub trait Block {
         ensures seen { seen self.new ≡ seen self.old }
         ensures number { number self.new ≡ number self.old }
         ensures steps { P.steps power.new ≡ P.steps power.old }
+        ensures reads { P.reads power.new ≡ (seen self.old).device ∷ P.reads power.old }
         ensures cause { HasCause (faults self.old) (faults self.new) result }
         ensures power { IsTrue obeys_power → HasCause (P.refused power.old) (P.refused power.new) result };
 
@@ -55,6 +56,7 @@ pub trait Block {
         ensures err { OnErr result (IsTorn from (length bytes.now) (seen self.old) (seen self.new)) }
         ensures number { number self.new ≡ number self.old }
         ensures steps { P.steps power.new ≡ (seen self.old).device ∷ P.steps power.old }
+        ensures reads { P.reads power.new ≡ P.reads power.old }
         ensures cause { HasCause (faults self.old) (faults self.new) result }
         ensures power { IsTrue obeys_power → HasCause (P.refused power.old) (P.refused power.new) result };
 
@@ -64,6 +66,7 @@ pub trait Block {
         ensures seen { seen self.new ≡ seen self.old }
         ensures number { number self.new ≡ number self.old }
         ensures steps { P.steps power.new ≡ P.steps power.old }
+        ensures reads { P.reads power.new ≡ (seen self.old).device ∷ P.reads power.old }
         ensures cause { HasCause (faults self.old) (faults self.new) result }
         ensures power { IsTrue obeys_power → HasCause (P.refused power.old) (P.refused power.new) result };
 
@@ -73,6 +76,7 @@ pub trait Block {
         ensures err { OnErr result (IsHalfTagged tag (seen self.old) (seen self.new)) }
         ensures number { number self.new ≡ number self.old }
         ensures steps { P.steps power.new ≡ (seen self.old).device ∷ P.steps power.old }
+        ensures reads { P.reads power.new ≡ P.reads power.old }
         ensures cause { HasCause (faults self.old) (faults self.new) result }
         ensures power { IsTrue obeys_power → HasCause (P.refused power.old) (P.refused power.new) result };
 
@@ -82,6 +86,7 @@ pub trait Block {
         ensures err { OnErr result (seen self.new ≡ unflushed (seen self.old)) }
         ensures number { number self.new ≡ number self.old }
         ensures steps { P.steps power.new ≡ (seen self.old).device ∷ P.steps power.old }
+        ensures reads { P.reads power.new ≡ P.reads power.old }
         ensures cause { HasCause (faults self.old) (faults self.new) result }
         ensures power { IsTrue obeys_power → HasCause (P.refused power.old) (P.refused power.new) result };
 
@@ -101,6 +106,7 @@ pub fn retag<B: Block, P: Power>(block: &mut B, power: &mut P, tag: u64) -> Resu
     // A fault came at the tag or at the flush, and ended the call.
     ensures err { OnErr result (RetagStopped tag (P.steps power.old) (B.seen block.old) (P.steps power.new) (B.seen block.new)) }
     ensures stopped { OnErr result (StopsIn ((B.seen block.old).device ∷ (B.seen block.old).device ∷ []) (P.steps power.old) (P.steps power.new)) }
+    ensures reads { P.reads power.new ≡ P.reads power.old }
     ensures device { (B.seen block.new).device ≡ (B.seen block.old).device }
     ensures number { B.number block.new ≡ B.number block.old }
     // At each moment an image is one from before the call, or that with this tag.

@@ -32,6 +32,7 @@ fn clear<B: Block, P: Power>(block: &mut B, power: &mut P) -> Result<(), DeviceF
     ensures moments { Moments IsBlockImage IsUntagged (P.steps power.old) (B.seen block.old) (P.steps power.new) (B.seen block.new) }
     ensures made { OnOk result (P.steps power.new ≡ (B.seen block.old).device ∷ (B.seen block.old).device ∷ P.steps power.old) }
     ensures stopped { OnErr result (StopsIn ((B.seen block.old).device ∷ (B.seen block.old).device ∷ []) (P.steps power.old) (P.steps power.new)) }
+    ensures reads { P.reads power.new ≡ P.reads power.old }
     ensures device { (B.seen block.new).device ≡ (B.seen block.old).device }
     ensures number { B.number block.new ≡ B.number block.old }
     ensures cause { HasCause (B.faults block.old) (B.faults block.new) result }
@@ -75,6 +76,7 @@ impl<B: Block> FreeBlock<B> {
         ensures moments { Moments IsBlockImage IsUntagged (P.steps power.old) (B.seen self.block) (P.steps power.new) (B.seen (block_in result)) }
         ensures made { OnOk result (P.steps power.new ≡ (B.seen self.block).device ∷ (B.seen self.block).device ∷ P.steps power.old) }
         ensures stopped { OnErr result (StopsIn ((B.seen self.block).device ∷ (B.seen self.block).device ∷ []) (P.steps power.old) (P.steps power.new)) }
+        ensures reads { P.reads power.new ≡ P.reads power.old }
         ensures device { (B.seen (block_in result)).device ≡ (B.seen self.block).device }
         ensures number { B.number (block_in result) ≡ B.number self.block }
         ensures cause { HasCause (B.faults self.block) (B.faults (block_in result)) result }

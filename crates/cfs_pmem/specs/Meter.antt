@@ -1,16 +1,17 @@
 -- When the power of one thread refuses a step.
 use Rattle.std.specs.Prelude.{ℕ, ◌+◌, ◌-◌, ◌^◌, ◌==◌, ◌&&◌, ◌||◌, min, Bool, true, false, not, List, map, filter, if◌then◌else◌}
 use Rattle.std.specs.List.{list_any}
-use Rattle.cfs_pmem.specs.Steps.{with_step}
+use Rattle.cfs_pmem.specs.Steps.{with_step, with_read}
 use Rattle.cfs_pmem.specs.declared.meter.Plan.{Plan}
 use Rattle.cfs_pmem.specs.declared.meter.Supply.{Supply}
 use Rattle.cfs_pmem.specs.declared.meter.Supply.TheVariants.{Steady, Until, Off}
 
--- the stop that is set, the plans, the writing steps so far, the newest first, and how many steps were refused
+-- the stop that is set, the plans, the writing and the reading steps so far, the newest first, and how many steps were refused
 pub record State : Type 0 where
   pub supply : Supply
   pub plans : List Plan
   pub steps : List ℕ
+  pub reads : List ℕ
   pub refused : ℕ
 
 -- The supply after one more step. Reading steps don't count, and once the stop has come it stays.
@@ -54,5 +55,6 @@ after_step device writing state = record {
   supply = supply_after writing state.supply;
   plans = plans_after device writing state.plans;
   steps = with_step device writing state.steps;
+  reads = with_read device writing state.reads;
   refused = if refuses device writing state then min (state.refused + 1) (2 ^ 64 - 1) else state.refused;
 }

@@ -3,7 +3,7 @@ ghost use Rattle.std.specs.Prelude.{◌≡◌, ◌+◌, ◌-◌, ◌<◌, ◌≤
 ghost use Rattle.std.specs.Bool.{OnTrue, OnFalse};
 ghost use Rattle.std.specs.List.{list_any};
 ghost use Rattle.cfs_pmem.specs.Faults.{Rose};
-ghost use Rattle.cfs_pmem.specs.Steps.{with_step};
+ghost use Rattle.cfs_pmem.specs.Steps.{with_step, with_read};
 ghost use Rattle.cfs_pmem.specs.Meter.{plans_after, is_due, counted, is_off, refuses, after_step};
 
 use crate::power::Power;
@@ -39,7 +39,8 @@ pub struct Meter {
     supply: Supply,
     plans: Vec<Plan>,
     refused: u64,
-    trace: Trace,
+    steps: Trace,
+    reads: Trace,
 }
 
 impl Model for Meter {
@@ -47,7 +48,7 @@ impl Model for Meter {
 
     ghost Value = { State };
 
-    ghost view = { λ m. record { supply = m.supply; plans = m.plans.items; steps = m.trace; refused = m.refused } };
+    ghost view = { λ m. record { supply = m.supply; plans = m.plans.items; steps = m.steps; reads = m.reads; refused = m.refused } };
 }
 
 impl Supply {
@@ -134,13 +135,14 @@ fn spend(plans: &mut Vec<Plan>, device: u32, writing: bool) -> bool
 impl Meter {
     /// A power that refuses nothing until it is told to.
     pub fn calm(alloc: Global) -> Meter
-        ensures { result ≡ record { supply = Supply.Steady; plans = []; steps = []; refused = 0 } }
+        ensures { result ≡ record { supply = Supply.Steady; plans = []; steps = []; reads = []; refused = 0 } }
     {
         Meter {
             supply: Supply::Steady,
             plans: Vec::new(alloc),
             refused: 0,
-            trace: Trace::new(),
+            steps: Trace::new(),
+            reads: Trace::new(),
         }
     }
 
@@ -187,11 +189,14 @@ impl Meter {
 impl Power for Meter {
     ghost steps = { λ m. m.steps };
 
+    ghost reads = { λ m. m.reads };
+
     ghost refused = { λ m. m.refused };
 
     #[inline]
     fn step(&mut self, device: u32, writing: bool) -> bool
         ensures steps { self.new.steps ≡ with_step device writing self.old.steps }
+        ensures reads { self.new.reads ≡ with_read device writing self.old.reads }
         ensures later { self.old.refused ≤ self.new.refused }
         ensures allowed { OnTrue result (self.new.refused ≡ self.old.refused) }
         ensures refused { OnFalse result (Rose self.old.refused self.new.refused) }
@@ -200,7 +205,9 @@ impl Power for Meter {
         ensures after { self.new ≡ after_step device writing self.old }
     {
         if writing {
-            self.trace.push(device);
+            self.steps.push(device);
+        } else {
+            self.reads.push(device);
         }
         self.supply.pass(writing);
         let planned = !self.plans.is_empty() && spend(&mut self.plans, device, writing);

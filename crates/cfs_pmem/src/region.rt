@@ -35,6 +35,7 @@ pub trait Region {
         ensures word { IfOk result (λ word. word ≡ get_or (words_of (seen self.old)) at 0) }
         ensures seen { seen self.new ≡ seen self.old }
         ensures steps { P.steps power.new ≡ P.steps power.old }
+        ensures reads { P.reads power.new ≡ (seen self.old).device ∷ P.reads power.old }
         ensures cause { HasCause (faults self.old) (faults self.new) result }
         ensures power { IsTrue obeys_power → HasCause (P.refused power.old) (P.refused power.new) result };
 
@@ -44,6 +45,7 @@ pub trait Region {
         ensures ok { OnOk result (seen self.new ≡ wrote at word (seen self.old)) }
         ensures err { OnErr result (seen self.new ≡ failed (seen self.old)) }
         ensures steps { P.steps power.new ≡ (seen self.old).device ∷ P.steps power.old }
+        ensures reads { P.reads power.new ≡ P.reads power.old }
         ensures cause { HasCause (faults self.old) (faults self.new) result }
         ensures power { IsTrue obeys_power → HasCause (P.refused power.old) (P.refused power.new) result };
 
@@ -52,6 +54,7 @@ pub trait Region {
         ensures ok { OnOk result (seen self.new ≡ kept (seen self.old)) }
         ensures err { OnErr result (seen self.new ≡ failed (seen self.old)) }
         ensures steps { P.steps power.new ≡ (seen self.old).device ∷ P.steps power.old }
+        ensures reads { P.reads power.new ≡ P.reads power.old }
         ensures cause { HasCause (faults self.old) (faults self.new) result }
         ensures power { IsTrue obeys_power → HasCause (P.refused power.old) (P.refused power.new) result };
 }
@@ -71,6 +74,7 @@ pub fn set_word<R: Region, P: Power>(
     // A fault came at the write or at the persist, and ended the call.
     ensures err { OnErr result (SettingStopped at word (P.steps power.old) (R.seen region.old) (P.steps power.new) (R.seen region.new)) }
     ensures stopped { OnErr result (StopsIn ((R.seen region.old).device ∷ (R.seen region.old).device ∷ []) (P.steps power.old) (P.steps power.new)) }
+    ensures reads { P.reads power.new ≡ P.reads power.old }
     ensures device { (R.seen region.new).device ≡ (R.seen region.old).device }
     ensures size { length (words_of (R.seen region.new)) ≡ length (words_of (R.seen region.old)) }
     // At each moment an image is one from before the call, or that with this word set.

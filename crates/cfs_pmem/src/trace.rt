@@ -1,11 +1,11 @@
-//! The writing steps that a power was asked for, which take no room at run time.
+//! The steps that a power was asked for, which take no room at run time.
 ghost use Rattle.std.specs.Prelude.{◌≡◌, [], ◌∷◌};
 
 use std::marker::Model;
 use std::mem;
 use std::snapshot::Snapshot;
 
-/// The device numbers of the writing steps so far. Contracts alone read it, as a list, the newest first.
+/// The device numbers of the steps so far. Contracts alone read it, as a list, the newest first.
 #[derive(Drop)]
 pub struct Trace {
     asked: Snapshot<Asked>,
@@ -38,7 +38,7 @@ impl Trace {
         }
     }
 
-    /// Notes a writing step of this device.
+    /// Notes a step of this device.
     #[inline]
     pub fn push(&mut self, device: u32)
         ensures { self.new ≡ device ∷ self.old }

@@ -3,6 +3,7 @@ use Rattle.cfs_pmem.proofs.MomentLemmas.{begun, extended, at_end}
 use Rattle.cfs_block.specs.declared.free_block.TheConstants.{ZEROS}
 use Rattle.cfs_block.specs.BlockImages.{IsUntagged, content_of}
 use Rattle.cfs_block.proofs.BlockLemmas.{all_torn, all_wrote, all_unflushed, all_kept, untagged_ranged, now_is_image, zeroed}
+use Rattle.std.proofs.lemmas.Result.{err_from_is_err_and}
 use Rattle.cfs_block.proofs.free_block.clear.Goals as goal
 
 pub returns-in_err-write-clause-untagged : goal.returns-in_err-write-clause-untagged
@@ -46,3 +47,8 @@ returns-clause-moments g c =
     extended _ (extended _ (begun _ _ c.requires) c.in_ok-write.ensures.ok c.write.ensures.steps untagged)
     c.in_ok-flush.ensures.ok c.flush.ensures.steps
     (all_kept (λ image. IsUntagged image) mid c.in_ok-flush.ensures.ok (untagged (content_of mid) (now_is_image mid.history (omega arith))))
+
+pub returns-in_err-write-clause-stopped : goal.returns-in_err-write-clause-stopped
+returns-in_err-write-clause-stopped g c =
+    let p = err_from_is_err_and c.from_residual.result c.from_residual.ensures.1 in
+    rw p.1 record { left = 1; within = omega arith; made = c.write.ensures.steps }
