@@ -283,11 +283,34 @@ beside {P} {Q} {steps_old} {steps_new} {old} {new} others m apart give =
           };
     }
 
+-- What callers need of lists of objects.
+
+pub none_nil : (device : ℕ) → HasNone [] device
+none_nil device = λ object has e. has
+
+pub none_cons : (first : Object) (rest : List Object) (device : ℕ) → device_of first ≢ device → HasNone rest device → HasNone (first ∷ rest) device
+none_cons first rest device apart none = λ object has. elim has as (λ _. device_of object ≢ device) [
+  | inl same ↦ λ e. apart (ap (λ o. device_of o) (sym same) ∙ e)
+  | inr there ↦ none object there
+]
+
+-- a medium that is possible now has an image of each object
+pub image_of : (steps : List ℕ) (objects : List Object) (object : Object) (medium : Medium) → IsMedium 0 steps objects medium → Has objects object → IsImageOf object medium
+image_of steps objects object medium h has = subst (λ o. IsImageOf o medium) (ago_now steps object) (h.each object has)
+
 -- The same objects in another order.
 
 pub record SameObjects (first second : List Object) : Type 0 where
   pub there : (object : Object) → Has first object → Has second object
   pub back : (object : Object) → Has second object → Has first object
+
+pub swapped : (first second : Object) (rest : List Object) → SameObjects (first ∷ (second ∷ rest)) (second ∷ (first ∷ rest))
+swapped first second rest =
+    let turn : (a b : Object) (object : Object) → Has (a ∷ (b ∷ rest)) object → Has (b ∷ (a ∷ rest)) object = λ a b object has. elim has as (λ _. Has (b ∷ (a ∷ rest)) object) [
+      | inl one ↦ inr (inl one)
+      | inr other ↦ elim other as (λ _. Has (b ∷ (a ∷ rest)) object) [ inl two ↦ inl two | inr there ↦ inr (inr there) ]
+    ] in
+    record { there = λ object has. turn first second object has; back = λ object has. turn second first object has }
 
 pub in_order : {P : Medium → Type 0} {steps_old steps_new : List ℕ} {old new old' new' : List Object} → SameObjects old old' → SameObjects new new'
     → AllMoments P steps_old old steps_new new → AllMoments P steps_old old' steps_new new'
