@@ -1,0 +1,5 @@
+pub mod Crashes
+pub mod Ranges
+pub mod ImageLemmas
+pub mod MomentLemmas
+pub mod MemRegions

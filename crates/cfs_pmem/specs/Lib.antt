@@ -1,0 +1,9 @@
+pub mod Backed
+pub mod Draws
+pub mod Faults
+pub mod Images
+pub mod Log
+pub mod Meter
+pub mod Moments
+pub mod Range
+pub mod Steps

@@ -1,0 +1,40 @@
+//! The range of places that were written since the last persist.
+ghost use Rattle.std.specs.Prelude.{◌≡◌, length};
+
+/// The least range that holds every place that was added: `from..to`, or none where `to` is not above `from`.
+#[derive(Clone, Copy, Debug)]
+pub struct Dirty {
+    pub from: usize,
+    pub to: usize,
+}
+
+impl Dirty {
+    ghost use Rattle.cfs_pmem.specs.Range.{with_range, DifferWithin};
+
+    /// No place of `len`.
+    pub fn none(len: usize) -> Dirty
+        ensures { result ≡ record { from = len; to = 0 } }
+    {
+        Dirty { from: len, to: 0 }
+    }
+
+    /// Adds the places from `from` up to `to`.
+    #[inline]
+    pub fn add(&mut self, from: usize, to: usize)
+        ensures { self.new ≡ with_range from to self.old }
+    {
+        self.from = self.from.min(from);
+        self.to = self.to.max(to);
+    }
+
+    /// Makes what is durable equal to what is present, where the two differ in this range alone. Copies the range.
+    #[inline]
+    pub fn copy<T: Copy>(self, present: &Vec<T>, durable: &mut Vec<T>)
+        requires { DifferWithin self durable.old.items present.now.items }
+        ensures { durable.new.items ≡ present.now.items }
+    {
+        if self.from < self.to {
+            durable[self.from..self.to].copy_from_slice(&present[self.from..self.to]);
+        }
+    }
+}
