@@ -1,0 +1,17 @@
+use Rattle.std.proofs.Common.{◌∙◌, arith}
+use Rattle.cfs_slot.proofs.SettingLemmas.{set_keeps_word, whole_offset}
+use Rattle.cfs_slot.proofs.staged.Staged.set_offset.Goals as goal
+
+pub invariant_of-self : goal.invariant_of-self
+invariant_of-self g c =
+    let staged = c.args.self.now in
+    let old = g.R.Region.seen staged.region in
+    let new = g.R.Region.seen c.set_word.new.region in
+    let from = c.set_word.ensures.images in
+    record {
+      size = c.set_word.ensures.size ∙ staged.size;
+      closed = set_keeps_word 0 0 old new 3 c.args.offset (omega arith) from staged.closed;
+      unmarked = set_keeps_word 1 0 old new 3 c.args.offset (omega arith) from staged.unmarked;
+      granted = set_keeps_word 5 staged.grant old new 3 c.args.offset (omega arith) from staged.granted;
+      whole = whole_offset old new c.args.offset from staged.whole;
+    }
