@@ -4,7 +4,7 @@ use Rattle.std.specs.Int.{w64, to_le_bytes}
 use Rattle.std.specs.List.{flat_map}
 use Rattle.std.proofs.Math.ListN.{get_or, set}
 use Rattle.cfs_file.specs.declared.request.Request.{Request}
-use Rattle.cfs_file.specs.declared.request.Request.TheVariants.{Write, Truncate}
+use Rattle.cfs_file.specs.declared.request.Request.TheVariants.{Write, Append, Truncate, Read, Sync}
 use Rattle.cfs_pmem.specs.Images.{Seen, WordStep, words_of, AllImages}
 use Rattle.cfs_slot.specs.declared.fields.Found.{Found}
 
@@ -52,6 +52,14 @@ found_of words = record {
 -- a write of its payload at its offset, or a truncate to its offset
 abbrev pub request_of : List ℕ → Request
 request_of words = if kind_of words == 2 then Truncate (offset_of words) else Write (offset_of words) (payload_of words)
+
+-- the same at another offset
+abbrev pub with_offset : ℕ → Request → Request
+with_offset at (Write offset bytes) = Write at bytes
+with_offset at (Append bytes) = Append bytes
+with_offset at (Truncate n) = Truncate at
+with_offset at (Read offset count) = Read at count
+with_offset at Sync = Sync
 
 -- the gate is closed
 abbrev pub IsClosed : List ℕ → Type 0

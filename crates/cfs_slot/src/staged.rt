@@ -4,7 +4,7 @@ ghost use Rattle.cfs_pmem.specs.Faults.{HasCause};
 ghost use Rattle.cfs_pmem.specs.Images.{words_of, wrote, kept, IsImage, AllImages, IsSure, IsSetFrom, SettingStopped};
 ghost use Rattle.cfs_pmem.specs.Moments.{Moments};
 ghost use Rattle.cfs_pmem.specs.Steps.{StopsIn};
-ghost use Rattle.cfs_slot.specs.Words.{mark_of, grant_of, ino_of, request_of, live_entry, IsClosed, IsWholeButOffset};
+ghost use Rattle.cfs_slot.specs.Words.{mark_of, grant_of, ino_of, request_of, with_offset, live_entry, IsClosed, IsWholeButOffset};
 
 use crate::doubt::Doubt;
 use crate::layout::{GATE, OFFSET};
@@ -46,6 +46,8 @@ impl<R: Region> Staged<R> {
     pub fn set_offset<P: Power>(&mut self, power: &mut P, offset: u64) -> Result<(), DeviceFault>
         ensures set { OnOk result (R.seen (of_staged self.new) ≡ kept (wrote OFFSET offset (R.seen (of_staged self.old)))) }
         ensures sure { OnOk result (IsSure (R.seen (of_staged self.new))) }
+        ensures request { OnOk result (request_of (words_of (R.seen (of_staged self.new))) ≡
+            with_offset offset (request_of (words_of (R.seen (of_staged self.old))))) }
         ensures made { OnOk result (P.steps power.new ≡
             (R.seen (of_staged self.old)).device ∷ (R.seen (of_staged self.old)).device ∷ P.steps power.old) }
         ensures unset { OnErr result (SettingStopped OFFSET offset
