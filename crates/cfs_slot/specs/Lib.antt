@@ -1,0 +1,4 @@
+pub mod Regions
+pub mod Staging
+pub mod Words
+pub mod Writing

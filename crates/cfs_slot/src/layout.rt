@@ -1,0 +1,34 @@
+//! Where the words of a slot stand in its region (own).
+
+/// How many words a slot has.
+pub const SLOT_WORDS: u32 = 518;
+
+/// The gate: 0 where it is closed, and else the place of the entry.
+pub const GATE: u32 = 0;
+
+/// The mark: 1 where the entry is a no-op, and else 0.
+pub const MARK: u32 = 1;
+
+/// The inode number of the file.
+pub const INO: u32 = 2;
+
+/// The offset of a write, in bytes, or the new length of a truncate.
+pub const OFFSET: u32 = 3;
+
+/// The kind, times 65,536, and the length of the payload in bytes.
+pub const KIND: u32 = 4;
+
+/// The number of the grant under which the request came.
+pub const GRANT: u32 = 5;
+
+/// The first of the payload's 512 words. Each holds eight bytes, the first one lowest.
+pub const PAYLOAD: u32 = 6;
+
+/// The kind of a write, whose payload has 1 to 4096 bytes.
+pub const WRITE: u64 = 1;
+
+/// The kind of a truncate, which has no payload.
+pub const TRUNCATE: u64 = 2;
+
+/// What the kind is multiplied by where it shares a word with the length.
+pub(crate) const KIND_UNIT: u64 = 65_536;
