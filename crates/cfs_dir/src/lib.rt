@@ -1,0 +1,21 @@
+//! The directory tree.
+#![tactic(auto)]
+
+mod child;
+mod kind;
+mod name;
+mod name_byte;
+mod node;
+mod path;
+mod place;
+mod posix;
+mod refusal;
+mod tree;
+
+pub use kind::Kind;
+pub use name::{LONGEST_NAME, Name};
+pub use node::Node;
+pub use path::{Component, Path};
+pub use posix::Posix;
+pub use refusal::TreeRefusal;
+pub use tree::{RECORDS, Tree};
