@@ -10,6 +10,7 @@ mod path;
 mod place;
 mod posix;
 mod refusal;
+mod rules;
 mod tree;
 
 pub use kind::Kind;
@@ -18,4 +19,5 @@ pub use node::Node;
 pub use path::{Component, Path};
 pub use posix::Posix;
 pub use refusal::TreeRefusal;
+pub use rules::DEEPEST;
 pub use tree::{RECORDS, Tree};

@@ -1,4 +1,5 @@
 ghost use Rattle.std.specs.Prelude.{◌≡◌, ◌≢◌, ◌↔◌, ℕ, List};
+ghost use Rattle.cfs_dir.specs.Name.{is_dots};
 ghost use Rattle.cfs_dir.specs.Path.{ArePathNames, IsPathName, IsPathText};
 
 use std::marker::Model;
@@ -23,6 +24,14 @@ impl Component {
         ensures { result.now ≡ self.now }
     {
         self.bytes.as_slice()
+    }
+
+    /// Whether this is `.` or `..`.
+    pub fn is_dots(&self) -> bool
+        ensures { result ≡ is_dots self.now }
+    {
+        let bytes = self.bytes.as_slice();
+        bytes == b".".as_slice() || bytes == b"..".as_slice()
     }
 }
 

@@ -1,11 +1,19 @@
-ghost use Rattle.std.specs.Prelude.{◌≡◌, ◌<◌, ◌≤◌, ℕ, IsSome, IfSome, IfOk, IfErr, Some, option_copied, slice_get};
+ghost use Rattle.std.specs.Prelude.{◌≡◌, ◌<◌, ◌≤◌, ℕ, IsSome, IfSome, IfOk, IfErr, Some, length, option_copied, slice_get};
 ghost use Rattle.std.specs.Option.{option_and_then};
 ghost use Rattle.cfs_dir.specs.Namespace.{node_at, child_of, with_node, without_node};
+ghost use Rattle.cfs_dir.specs.Name.{AreNameBytes};
+ghost use Rattle.cfs_dir.specs.Step.{entered, has_right, place_of};
 ghost use Rattle.cfs_dir.specs.Tree.{IsTree};
 
 use crate::child::Child;
-use crate::name::Name;
+use crate::kind::Kind;
+use crate::name::{LONGEST_NAME, Name};
 use crate::node::Node;
+use crate::path::{Component, Path};
+use crate::place::Place;
+use crate::posix::Posix;
+use crate::rules::path_refusal;
+use cfs_cred::{Credential, Want, allows};
 use indexmap::IndexMap;
 use std::marker::Model;
 
@@ -52,6 +60,16 @@ impl Tree {
         self.next
     }
 
+    /// The root, which stands at the first record.
+    fn root(&self) -> &Node
+        ensures { node_at self.now.nodes 0 ≡ Some result.now }
+    {
+        match slot(&self.slots, 0) {
+            Some(root) => root,
+            None => unreachable!(),
+        }
+    }
+
     /// The node of this name in a directory.
     fn child(&self, parent: u64, name: Name) -> Option<&Node>
         ensures { option_copied result ≡ child_of self.now.nodes parent name }
@@ -60,6 +78,54 @@ impl Tree {
         let rec = *self.index.get(&child)?;
         slot(&self.slots, rec)
     }
+
+    /// The directory of this name in a directory.
+    fn enter(
+        &self,
+        credential: Credential,
+        directory: &Node,
+        name: &Component,
+    ) -> Result<Node, Posix>
+        requires short { length name.now ≤ LONGEST_NAME }
+        requires readable { AreNameBytes name.now }
+        ensures { result ≡ entered self.now.nodes credential directory.now name.now }
+    {
+        if !has_right(credential, directory, Want::Search) {
+            return Err(Posix::PermissionDenied);
+        }
+        let name = Name::of(name.as_bytes());
+        match self.child(directory.ino, name) {
+            None => Err(Posix::NotFound),
+            Some(node) => match node.kind {
+                Kind::Directory => Ok(*node),
+                Kind::File => Err(Posix::NotADirectory),
+            },
+        }
+    }
+
+    /// Where a path leads to.
+    fn place(&self, credential: Credential, path: &Path) -> Result<Place, Posix>
+        ensures { result ≡ place_of self.now.nodes credential path.now }
+    {
+        let names = path.names();
+        if let Some(refusal) = path_refusal(names) {
+            return Err(refusal);
+        }
+        let root = *self.root();
+        let Some((last, directories)) = names.split_last() else {
+            return Ok(Place::Root(root));
+        };
+        let mut directory = root;
+        for name in directories {
+            directory = self.enter(credential, &directory, name)?;
+        }
+        if !has_right(credential, &directory, Want::Search) {
+            return Err(Posix::PermissionDenied);
+        }
+        let name = Name::of(last.as_bytes());
+        let node = self.child(directory.ino, name).copied();
+        Ok(Place::Entry(directory, name, node))
+    }
 }
 
 /// The node of a record, by its place.
@@ -67,4 +133,11 @@ fn slot(slots: &[Option<Node>], rec: u32) -> Option<&Node>
     ensures { option_copied result ≡ option_and_then (λ slot. slot) (slice_get slots.now rec) }
 {
     slots.get(rec as usize)?.as_ref()
+}
+
+/// Whether a user has a right on a node.
+fn has_right(credential: Credential, node: &Node, want: Want) -> bool
+    ensures { result ≡ has_right credential node.now want }
+{
+    allows(node.mode, node.uid, node.gid, credential, want)
 }
