@@ -1,3 +1,4 @@
+pub mod Changed
 pub mod Depth
 pub mod Found
 pub mod Grown

@@ -1,13 +1,14 @@
 -- The slots of a table, and the nodes that stand in them.
-use Rattle.std.proofs.Common.{◌≡◌, ℕ, zero, suc, ◌+◌, ◌≤◌, ◌<◌, List, [], ◌∷◌, length, Bool, true, false, not, cond, refl, sym, ◌∙◌, ap, subst, arith, eqb, ltb}
+use Rattle.std.proofs.Common.{◌≡◌, ℕ, zero, suc, ◌+◌, ◌≤◌, ◌<◌, List, [], ◌∷◌, length, Bool, true, false, not, cond, ◌||◌, refl, sym, ◌∙◌, ap, subst, arith, eqb, ltb}
 use Rattle.std.proofs.Math.ListN.{set}
 use Rattle.std.specs.Prelude.{Option, Some, None, slice_get, filter, find, nat_lt, nat_eq}
+use Rattle.std.specs.List.{list_any}
 use Rattle.std.specs.Option.{option_and_then}
 use Rattle.std.proofs.lemmas.Bool.{eq-eqb, ne_eqb, lt-ltb, le-ltb, cond-true, cond-false}
 use Rattle.cfs_dir.specs.declared.node.Node.{Node}
-use Rattle.cfs_dir.specs.Namespace.{node_at, placed, without}
+use Rattle.cfs_dir.specs.Namespace.{node_at, has_child, placed, without}
 use Rattle.cfs_dir.specs.Tree.{AreAscendingFrom}
-use Rattle.cfs_dir.specs.Table.{nodes_of, AreAtRecords}
+use Rattle.cfs_dir.specs.Table.{nodes_of, stands_in, AreAtRecords}
 
 -- the node of a record, by its place
 abbrev pub slot_at : List (Option Node) → ℕ → Option Node
@@ -113,3 +114,8 @@ pub slot_is_node : (given slots : List (Option Node)) (rec : ℕ) → AreAtRecor
 slot_is_node given slots rec h same =
     ap (λ list. option_and_then (λ slot. slot) (slice_get list rec)) same
     ∙ sym (slot_at-slice_get slots rec) ∙ sym (node_at-nodes_of 0 slots rec rec h (omega arith))
+
+pub list_any-stands_in : (slots : List (Option Node)) (parent : ℕ) → list_any (stands_in parent) slots ≡ has_child (nodes_of slots) parent
+list_any-stands_in [] parent = refl
+list_any-stands_in (None ∷ slots) parent = list_any-stands_in slots parent
+list_any-stands_in (Some node ∷ slots) parent = ap (λ b. nat_eq node.parent parent || b) (list_any-stands_in slots parent)

@@ -1,5 +1,5 @@
 -- What each call on the tree answers: a walk by names over the list of nodes, and then the tests of the call in their order.
-use Rattle.std.specs.Prelude.{ℕ, List, [], ◌∷◌, Bool, true, false, not, ◌||◌, nat_lt, Option, Some, None, Result, Ok, Err, length, if◌then◌else◌}
+use Rattle.std.specs.Prelude.{◌≡◌, ℕ, List, [], ◌∷◌, Bool, true, false, not, ◌||◌, nat_lt, Option, Some, None, Result, Ok, Err, length, if◌then◌else◌}
 use Rattle.std.specs.List.{list_any}
 use Rattle.cfs_cred.specs.declared.credential.Credential.{Credential}
 use Rattle.cfs_cred.specs.declared.want.Want.{Want}
@@ -11,6 +11,8 @@ use Rattle.cfs_dir.specs.declared.place.Place.{Place}
 use Rattle.cfs_dir.specs.declared.place.Place.TheVariants.{Root, Entry}
 use Rattle.cfs_dir.specs.declared.posix.Posix.{Posix}
 use Rattle.cfs_dir.specs.declared.posix.Posix.TheVariants.{AlreadyExists, DirectoryNotEmpty, InvalidArgument, IsADirectory, NameTooLong, NotADirectory, NotFound, PermissionDenied, TooManyFiles}
+use Rattle.cfs_dir.specs.declared.refusal.TreeRefusal.{TreeRefusal}
+use Rattle.cfs_dir.specs.declared.refusal.TreeRefusal.TheVariants.{NoMemory, Refused}
 use Rattle.cfs_dir.specs.Name.{is_dots}
 use Rattle.cfs_dir.specs.Namespace.{Namespace, node_at, child_of, has_child, is_directory}
 
@@ -121,3 +123,14 @@ rmdir_at nodes credential (Entry directory name (Some node)) =
 abbrev pub removed_directory : Namespace → Credential → List (List ℕ) → Result Node Posix
 removed_directory namespace credential path =
     and_then (place_of namespace.nodes credential path) (rmdir_at namespace.nodes credential)
+
+-- the answer of a call that takes no memory
+abbrev pub refused : Result Node Posix → Result Node TreeRefusal
+refused (Ok node) = Ok node
+refused (Err refusal) = Err (Refused refusal)
+
+-- the answer of a call that takes memory, which may be lacking
+abbrev pub IsAnswer : Result Node Posix → Result Node TreeRefusal → Type 0
+IsAnswer step (Ok node) = step ≡ Ok node
+IsAnswer step (Err (Refused refusal)) = step ≡ Err refusal
+IsAnswer step (Err NoMemory) = Unit {0}

@@ -1,5 +1,5 @@
 -- How a tree is kept: the node of each record at its place, and an index from a directory and a name to a record.
-use Rattle.std.specs.Prelude.{◌≡◌, ℕ, suc, List, [], ◌∷◌, Bool, ◌&&◌, ◌==◌, Option, None, Some, length}
+use Rattle.std.specs.Prelude.{◌≡◌, ℕ, suc, List, [], ◌∷◌, Bool, false, ◌&&◌, ◌==◌, Option, None, Some, length}
 use Rattle.std.specs.Option.{option_map}
 use Rattle.std.specs.Str.{bytes_eq}
 use Rattle.std.specs.HashMap.{get, HashMap}
@@ -15,6 +15,11 @@ abbrev pub nodes_of : List (Option Node) → List Node
 nodes_of [] = []
 nodes_of (None ∷ slots) = nodes_of slots
 nodes_of (Some node ∷ slots) = node ∷ nodes_of slots
+
+-- whether a slot has a node that stands in this directory
+abbrev pub stands_in : ℕ → Option Node → Bool
+stands_in parent None = false
+stands_in parent (Some node) = node.parent == parent
 
 -- each node stands at its record, where the first slot is that of record `first`
 abbrev pub AreAtRecords : ℕ → List (Option Node) → Type 0

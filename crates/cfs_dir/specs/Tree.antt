@@ -1,10 +1,10 @@
 -- Which nodes make a tree.
-use Rattle.std.specs.Prelude.{◌≡◌, ◌≢◌, ℕ, zero, suc, ◌≤◌, ◌<◌, ◌^◌, List, [], ◌∷◌, ◌==◌, Bool, true, false, IsTrue, Option, Some, IsSomeAnd, All, if◌then◌else◌}
+use Rattle.std.specs.Prelude.{◌≡◌, ◌≢◌, ℕ, zero, suc, ◌+◌, ◌≤◌, ◌<◌, ◌^◌, List, [], ◌∷◌, ◌==◌, Bool, true, false, IsTrue, Option, Some, None, IsSomeAnd, All, if◌then◌else◌}
 use Rattle.std.specs.Option.{option_map_or}
 use Rattle.cfs_dir.specs.declared.kind.Kind.TheVariants.{Directory}
 use Rattle.cfs_dir.specs.declared.node.Node.{Node}
 use Rattle.cfs_dir.specs.Name.{IsNodeName}
-use Rattle.cfs_dir.specs.Namespace.{node_at, node_of, child_of}
+use Rattle.cfs_dir.specs.Namespace.{Namespace, node_at, node_of, child_of, placed, without}
 
 -- the root stands in itself and has no name
 pub record IsRoot (node : Node) : Type 0 where
@@ -40,3 +40,14 @@ pub record IsTree (nodes : List Node) (next : ℕ) : Type 0 where
   pub name_once : All (λ node. child_of nodes node.parent node.name ≡ Some node) nodes
   pub parents : All (λ node. IsSomeAnd (node_of nodes node.parent) (λ parent. parent.kind ≡ Directory)) nodes
   pub depths : All (λ node. IsTrue (leads_to_root 16 nodes node.ino)) nodes
+
+-- a node that may join a tree: its record, its number and its name are free, and the tree with it is one
+pub record CanJoin (namespace : Namespace) (node : Node) : Type 0 where
+  pub free : node_at namespace.nodes node.rec ≡ None
+  pub unnamed : child_of namespace.nodes node.parent node.name ≡ None
+  pub whole : IsTree (placed node namespace.nodes) (namespace.next + 1)
+
+-- a node that may leave a tree
+pub record CanLeave (namespace : Namespace) (node : Node) : Type 0 where
+  pub stands : node_at namespace.nodes node.rec ≡ Some node
+  pub whole : IsTree (without node.rec namespace.nodes) namespace.next

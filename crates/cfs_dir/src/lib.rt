@@ -20,4 +20,4 @@ pub use path::{Component, Path};
 pub use posix::Posix;
 pub use refusal::TreeRefusal;
 pub use rules::DEEPEST;
-pub use tree::{RECORDS, Tree};
+pub use tree::{INODE_END, RECORDS, Tree};

@@ -12,16 +12,20 @@ pub struct Component {
 
 impl Model for Component {
     ghost use Rattle.std.specs.Prelude.{ℕ, List};
+    ghost use Rattle.cfs_dir.specs.Path.{IsPathName};
 
     ghost Value = { List ℕ };
 
     ghost view = { λ c. c.bytes.items };
+
+    ghost invariant = { λ c. IsPathName c.bytes.items };
 }
 
 impl Component {
     /// The bytes of the name.
     pub fn as_bytes(&self) -> &[u8]
-        ensures { result.now ≡ self.now }
+        ensures same { result.now ≡ self.now }
+        ensures readable { IsPathName self.now }
     {
         self.bytes.as_slice()
     }

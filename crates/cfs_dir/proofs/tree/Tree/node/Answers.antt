@@ -1,10 +1,5 @@
 use Rattle.std.proofs.Common.{◌∙◌, ap}
 use Rattle.cfs_dir.specs.Namespace.{Namespace, node_at}
-use Rattle.cfs_dir.proofs.Walked.{place_of-Entry}
-use Rattle.cfs_dir.proofs.Depth.{leads-without, leads-placed}
-use Rattle.cfs_dir.proofs.Grown.{IsTree-placed}
-use Rattle.cfs_dir.proofs.Shrunk.{IsTree-without}
-use Rattle.cfs_dir.proofs.Indexed.{IsIndex-without}
 use Rattle.cfs_dir.proofs.Slots.{slot_is_node}
 use Rattle.cfs_dir.proofs.tree.Tree.node.Goals as goal
 

@@ -11,8 +11,8 @@ unreachable-requires c =
     ∙ sym c.slot.ensures ∙ ap option_copied c.in-None.is in
     subst (λ o. IsSomeAnd o IsRoot) none c.self.invariant.tree.root
 
-pub returns : goal.returns
-returns c =
+pub returns-clause-first : goal.returns-clause-first
+returns-clause-first c =
     ap (λ (namespace : Namespace). node_at namespace.nodes 0) (sym c.self.view_is)
     ∙ sym (slot_is_node c.deref.result.now c.self.inside.slots.items 0 c.self.invariant.at_records c.deref.ensures.value)
     ∙ sym c.slot.ensures ∙ ap option_copied c.in-Some.is
