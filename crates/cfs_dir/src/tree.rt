@@ -266,14 +266,15 @@ impl Tree {
         if self.next >= INODE_END {
             return Err(Posix::TooManyFiles);
         }
+        let Credential { uid, gid } = credential;
         Ok(Node {
             ino: self.next,
             parent: directory.ino,
             name,
             kind,
             mode,
-            uid: credential.uid,
-            gid: credential.gid,
+            uid,
+            gid,
             rec,
         })
     }

@@ -13,4 +13,4 @@ returns-clause-joins c =
     let permissions = c.requires.permissions in
     let room = c.if-self-ge-INODE_END.false in
     CanJoin-new c.args.self.now c.args.credential c.args.path.now c.in-Entry-default-default-None.directory c.in-Entry-default-default-None.name _
-    c.place.ensures.whole c.place.ensures.readable (cc) next (omega arith) refl refl (omega arith) ? ? given.0 given.1
+    c.place.ensures.whole c.place.ensures.readable (cc) next (omega arith) refl refl (omega arith) (omega arith) (omega arith) given.0 given.1
