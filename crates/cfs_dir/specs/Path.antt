@@ -1,5 +1,5 @@
 -- The text of a path: `/`, or one to 64 times `/` and a name.
-use Rattle.std.specs.Prelude.{◌≡◌, ℕ, ◌≤◌, List, [], ◌∷◌, ◌++◌, All, length}
+use Rattle.std.specs.Prelude.{◌≡◌, ℕ, ◌≤◌, List, [], ◌∷◌, Bool, ◌==◌, ◌++◌, All, length}
 use Rattle.cfs_dir.specs.Name.{AreNameBytes}
 
 -- a name as a path may write it; the tree refuses one that is too long for a node
@@ -8,6 +8,13 @@ IsPathName name = (1 ≤ length name) × (length name ≤ 200) × AreNameBytes n
 
 abbrev pub ArePathNames : List (List ℕ) → Type 0
 ArePathNames names = (length names ≤ 64) × All IsPathName names
+
+abbrev pub is_slash : ℕ → Bool
+is_slash byte = byte == 47
+
+abbrev pub BeginsWithSlash : List ℕ → Type 0
+BeginsWithSlash [] = ⊥
+BeginsWithSlash (byte ∷ bytes) = byte ≡ 47
 
 -- each name behind a `/`
 abbrev pub behind_slashes : List (List ℕ) → List ℕ

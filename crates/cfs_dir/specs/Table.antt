@@ -1,5 +1,5 @@
 -- How a tree is kept: the node of each record at its place, and an index from a directory and a name to a record.
-use Rattle.std.specs.Prelude.{◌≡◌, ℕ, suc, List, [], ◌∷◌, Bool, false, ◌&&◌, ◌==◌, Option, None, Some, length}
+use Rattle.std.specs.Prelude.{◌≡◌, ℕ, suc, List, [], ◌∷◌, Bool, false, ◌&&◌, ◌==◌, Option, None, Some, All, ◌<◌, length}
 use Rattle.std.specs.Option.{option_map}
 use Rattle.std.specs.Str.{bytes_eq}
 use Rattle.std.specs.HashMap.{get, HashMap}
@@ -8,7 +8,7 @@ use Rattle.std.specs.declared.hash.BuildHasherDefault.{BuildHasherDefault}
 use Rattle.cfs_dir.specs.declared.child.Child.{Child}
 use Rattle.cfs_dir.specs.declared.node.Node.{Node}
 use Rattle.cfs_dir.specs.Namespace.{child_of}
-use Rattle.cfs_dir.specs.Tree.{IsTree}
+use Rattle.cfs_dir.specs.Tree.{AreAscendingFrom, IsTree}
 
 -- the nodes that stand in the slots, in order
 abbrev pub nodes_of : List (Option Node) → List Node
@@ -43,3 +43,16 @@ pub record IsTable (slots : List (Option Node)) (index : Index) (next : ℕ) : T
   pub at_records : AreAtRecords 0 slots
   pub tree : IsTree (nodes_of slots) next
   pub indexed : IsIndex (nodes_of slots) index
+
+-- nodes that a table can hold: their records ascend and are below 256, and no two have one name in one directory
+pub record AreListed (nodes : List Node) : Type 0 where
+  pub ascending : AreAscendingFrom 0 nodes
+  pub records : All (λ node. node.rec < 256) nodes
+  pub name_once : All (λ node. child_of nodes node.parent node.name ≡ Some node) nodes
+
+-- the slots and the index hold these nodes
+pub record IsTableOf (slots : List (Option Node)) (index : Index) (nodes : List Node) : Type 0 where
+  pub size : length slots ≡ 256
+  pub at_records : AreAtRecords 0 slots
+  pub nodes_are : nodes_of slots ≡ nodes
+  pub indexed : IsIndex nodes index

@@ -13,6 +13,11 @@ pub record IsRoot (node : Node) : Type 0 where
   pub name : node.name ≡ []
   pub kind : node.kind ≡ Directory
 
+-- the root of a new tree
+abbrev pub root_of : ℕ → ℕ → ℕ → Node
+root_of mode uid gid =
+    record { ino = 1; parent = 1; name = []; kind = Directory; mode = mode; uid = uid; gid = gid; rec = 0 }
+
 -- the nodes stand by ascending record, and the first record is at least `least`
 abbrev pub AreAscendingFrom : ℕ → List Node → Type 0
 AreAscendingFrom least [] = Unit {0}

@@ -16,7 +16,7 @@ mod tree;
 pub use kind::Kind;
 pub use name::{LONGEST_NAME, Name};
 pub use node::Node;
-pub use path::{Component, Path};
+pub use path::{Component, LONGEST_COMPONENT, MOST_NAMES, Path, PathRefusal};
 pub use posix::Posix;
 pub use refusal::TreeRefusal;
 pub use rules::DEEPEST;

@@ -1,11 +1,11 @@
-ghost use Rattle.std.specs.Prelude.{◌≡◌, ◌<◌, ◌≤◌, ℕ, IfOk, OnOk, OnErr, Some, None, length, option_copied, slice_get};
+ghost use Rattle.std.specs.Prelude.{◌≡◌, ◌<◌, ◌≤◌, [], ◌∷◌, ℕ, IfErr, IfOk, OnOk, OnErr, Some, None, length, option_copied, slice_get};
 ghost use Rattle.std.specs.List.{list_any};
 ghost use Rattle.std.specs.Option.{ForSome, option_and_then};
 ghost use Rattle.cfs_dir.specs.Namespace.{child_of, has_child, node_at, with_node, without_node};
 ghost use Rattle.cfs_dir.specs.Step.{IsAnswer, entered, has_right, looked_up, made, place_of, refused, removed_directory, unlinked};
-ghost use Rattle.cfs_dir.specs.Table.{stands_in};
+ghost use Rattle.cfs_dir.specs.Table.{AreListed, IsTableOf, stands_in};
 ghost use Rattle.cfs_dir.specs.Path.{ArePathNames};
-ghost use Rattle.cfs_dir.specs.Tree.{CanJoin, CanLeave, IsTree};
+ghost use Rattle.cfs_dir.specs.Tree.{CanJoin, CanLeave, IsTree, root_of};
 
 use crate::child::Child;
 use crate::kind::Kind;
@@ -18,7 +18,7 @@ use crate::refusal::TreeRefusal;
 use crate::rules::path_refusal;
 use cfs_cred::{Credential, Want, allows};
 use indexmap::IndexMap;
-use std::alloc::AllocError;
+use std::alloc::{AllocError, AllocFailed, Global};
 use std::marker::Model;
 
 /// How many records there are, and so how many nodes a tree has at most.
@@ -51,6 +51,39 @@ impl Model for Tree {
 }
 
 impl Tree {
+    /// The tree of these nodes, which stand by ascending record, and this next inode number.
+    ///
+    /// Without memory it gives the nodes back.
+    pub fn new(alloc: Global, nodes: Vec<Node>, next: u64) -> Result<Self, AllocFailed<Vec<Node>>>
+        requires { IsTree nodes.items next }
+        ensures made { IfOk result (λ tree. tree ≡ record { nodes = nodes.items; next = next }) }
+        ensures given_back { IfErr result (λ failed. failed.value ≡ nodes) }
+    {
+        match table_of(alloc, &nodes) {
+            Ok((slots, index)) => Ok(Tree { slots, index, next }),
+            Err(_) => Err(AllocFailed { value: nodes }),
+        }
+    }
+
+    /// The tree of a new file system, which has a root alone.
+    pub fn with_root(alloc: Global, mode: u16, uid: u32, gid: u32) -> Result<Self, AllocError>
+        requires { mode ≤ 511 }
+        ensures { IfOk result (λ tree. tree ≡ record { nodes = root_of mode uid gid ∷ []; next = 2 }) }
+    {
+        let root = Node {
+            ino: 1,
+            parent: 1,
+            name: Name::empty(),
+            kind: Kind::Directory,
+            mode,
+            uid,
+            gid,
+            rec: 0,
+        };
+        let nodes = vec![in alloc; root]?;
+        Ok(Tree::new(alloc, nodes, 2)?)
+    }
+
     /// The node that keeps a record; none exactly where no node does.
     pub fn node(&self, rec: u32) -> Option<&Node>
         ensures { option_copied result ≡ node_at self.now.nodes rec }
@@ -357,6 +390,27 @@ impl Tree {
         self.index.swap_remove(&child);
         self.slots[node.rec as usize] = None;
     }
+}
+
+/// The nodes at their records, and the index of their names.
+fn table_of(
+    alloc: Global,
+    nodes: &[Node],
+) -> Result<(Vec<Option<Node>>, IndexMap<Child, u32>), AllocError>
+    requires { AreListed nodes.now }
+    ensures { IfOk result (λ table. IsTableOf table.0.items table.1 nodes.now) }
+{
+    let mut slots = vec![in alloc; None; RECORDS]?;
+    let mut index = IndexMap::new(alloc);
+    for node in nodes {
+        let child = Child {
+            parent: node.parent,
+            name: node.name,
+        };
+        index.insert(child, node.rec)?;
+        slots[node.rec as usize] = Some(*node);
+    }
+    Ok((slots, index))
 }
 
 /// The node of a record, by its place.
