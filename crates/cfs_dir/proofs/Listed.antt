@@ -1,13 +1,17 @@
 -- A table that is made of a list of nodes, one after another.
-use Rattle.std.proofs.Common.{◌≡◌, ◌≢◌, ℕ, zero, suc, ◌+◌, ◌≤◌, ◌<◌, List, [], ◌∷◌, ◌++◌, length, take, drop, get_or, Bool, true, false, not, cond, inl, inr, refl, sym, ◌∙◌, ap, subst, arith, add-one}
+use Rattle.std.proofs.Common.{◌≡◌, ◌≢◌, ℕ, zero, suc, ◌+◌, ◌≤◌, ◌<◌, List, [], ◌∷◌, ◌++◌, length, take, drop, get_or, Bool, true, false, not, cond, inl, inr, refl, sym, ◌∙◌, ap, subst, arith, add-one, ◌^◌, lit≤}
 use Rattle.std.proofs.Math.ListN.{set, length-set}
-use Rattle.std.specs.Prelude.{Option, Some, None, All, nat_eq, nat_lt, replicate}
+use Rattle.std.specs.Prelude.{Option, Some, None, IsSomeAnd, All, nat_eq, nat_lt, replicate}
 use Rattle.std.specs.Option.{option_map}
 use Rattle.std.proofs.lemmas.Bool.{cases_Bool, cond-true, cond-false, lt-ltb, ne_eqb, and_left}
+use Rattle.std.proofs.lemmas.List.Elements.{All-cons, All-nil}
+use Rattle.cfs_dir.specs.declared.kind.Kind.TheVariants.{Directory}
 use Rattle.cfs_dir.specs.declared.node.Node.{Node}
-use Rattle.cfs_dir.specs.Namespace.{node_at, child_of, is_child, placed}
+use Rattle.cfs_dir.specs.Name.{IsNodeName}
+use Rattle.cfs_dir.specs.Namespace.{node_at, node_of, child_of, is_child, placed}
 use Rattle.cfs_dir.specs.Tree.{AreAscendingFrom, IsTree, IsRoot, leads_to_root, root_of}
 use Rattle.cfs_dir.specs.Table.{AreListed, AreAtRecords, Index, IsIndex, IsTableOf, nodes_of}
+use Rattle.cfs_dir.proofs.Depth.{leads-root}
 use Rattle.cfs_dir.proofs.Grown.{is_child-own, is_child-parts}
 use Rattle.cfs_dir.proofs.Indexed.{IsUpdated, key_of, IsIndex-placed}
 use Rattle.cfs_dir.proofs.Members.{In, All-In, find-none_of}
@@ -108,4 +112,26 @@ IsTableOf-next slots index new nodes i node h lt is table updated =
           ∙ ap (λ ns. placed node ns) table.nodes_are ∙ grown;
       indexed = λ child. IsIndex-placed (take i nodes) node index new unnamed table.indexed updated child
           ∙ ap (λ ns. option_map (λ (n : Node). n.rec) (child_of ns child.parent child.name)) grown;
+    }
+
+-- the root alone is a tree
+pub IsTree-root : (mode uid gid : ℕ) → mode ≤ 511 → uid < 2 ^ 32 → gid < 2 ^ 32 → IsTree (root_of mode uid gid ∷ []) 2
+IsTree-root mode uid gid m u g =
+    record {
+      next_low = omega arith;
+      next_high = lit≤ tt;
+      ascending = (omega arith, tt);
+      records = All-cons (λ n. n.rec < 256) (root_of mode uid gid) [] (omega arith) (All-nil (λ n. n.rec < 256));
+      root = record { ino = refl; parent = refl; name = refl; kind = refl };
+      numbers = All-cons (λ n. (1 ≤ n.ino) × (n.ino < 2)) (root_of mode uid gid) [] (omega arith, omega arith) (All-nil (λ n. (1 ≤ n.ino) × (n.ino < 2)));
+      number_once = All-cons (λ n. node_of (root_of mode uid gid ∷ []) n.ino ≡ Some n) (root_of mode uid gid) [] refl (All-nil (λ n. node_of (root_of mode uid gid ∷ []) n.ino ≡ Some n));
+      modes = All-cons (λ n. n.mode ≤ 511) (root_of mode uid gid) [] m (All-nil (λ n. n.mode ≤ 511));
+      owners = All-cons (λ n. (n.uid < 2 ^ 32) × (n.gid < 2 ^ 32)) (root_of mode uid gid) [] (u, g) (All-nil (λ n. (n.uid < 2 ^ 32) × (n.gid < 2 ^ 32)));
+      names = All-cons (λ n. n.ino ≢ 1 → IsNodeName n.name) (root_of mode uid gid) [] (λ ne. absurd (ne refl)) (All-nil (λ n. n.ino ≢ 1 → IsNodeName n.name));
+      name_once = All-cons (λ n. child_of (root_of mode uid gid ∷ []) n.parent n.name ≡ Some n) (root_of mode uid gid) [] refl
+          (All-nil (λ n. child_of (root_of mode uid gid ∷ []) n.parent n.name ≡ Some n));
+      parents = All-cons (λ n. IsSomeAnd (node_of (root_of mode uid gid ∷ []) n.parent) (λ parent. parent.kind ≡ Directory)) (root_of mode uid gid) [] refl
+          (All-nil (λ n. IsSomeAnd (node_of (root_of mode uid gid ∷ []) n.parent) (λ parent. parent.kind ≡ Directory)));
+      depths = All-cons (λ n. leads_to_root 16 (root_of mode uid gid ∷ []) n.ino ≡ true) (root_of mode uid gid) []
+          (leads-root 16 (root_of mode uid gid ∷ []) 1 refl) (All-nil (λ n. leads_to_root 16 (root_of mode uid gid ∷ []) n.ino ≡ true));
     }
