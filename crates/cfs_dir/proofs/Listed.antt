@@ -1,5 +1,5 @@
 -- A table that is made of a list of nodes, one after another.
-use Rattle.std.proofs.Common.{◌≡◌, ◌≢◌, ℕ, zero, suc, ◌+◌, ◌≤◌, ◌<◌, List, [], ◌∷◌, ◌++◌, length, take, drop, get_or, Bool, true, false, not, cond, inl, inr, refl, sym, ◌∙◌, ap, subst, arith, add-one, ◌^◌, lit≤}
+use Rattle.std.proofs.Common.{◌≡◌, ◌≢◌, ℕ, zero, suc, ◌+◌, ◌≤◌, ◌<◌, List, [], ◌∷◌, ◌++◌, length, take, drop, get_or, Bool, true, false, not, cond, inl, inr, refl, sym, ◌∙◌, ap, subst, arith, add-one, ◌^◌}
 use Rattle.std.proofs.Math.ListN.{set, length-set}
 use Rattle.std.specs.Prelude.{Option, Some, None, IsSomeAnd, All, nat_eq, nat_lt, replicate}
 use Rattle.std.specs.Option.{option_map}
@@ -115,15 +115,16 @@ IsTableOf-next slots index new nodes i node h lt is table updated =
     }
 
 -- the root alone is a tree
-pub IsTree-root : (mode uid gid : ℕ) → mode ≤ 511 → uid < 2 ^ 32 → gid < 2 ^ 32 → IsTree (root_of mode uid gid ∷ []) 2
-IsTree-root mode uid gid m u g =
+pub IsTree-root : (mode uid gid next : ℕ) → mode ≤ 511 → uid < 2 ^ 32 → gid < 2 ^ 32 → 2 ≤ next → next ≤ 2 ^ 32
+    → IsTree (root_of mode uid gid ∷ []) next
+IsTree-root mode uid gid next m u g low high =
     record {
-      next_low = omega arith;
-      next_high = lit≤ tt;
+      next_low = low;
+      next_high = high;
       ascending = (omega arith, tt);
       records = All-cons (λ n. n.rec < 256) (root_of mode uid gid) [] (omega arith) (All-nil (λ n. n.rec < 256));
       root = record { ino = refl; parent = refl; name = refl; kind = refl };
-      numbers = All-cons (λ n. (1 ≤ n.ino) × (n.ino < 2)) (root_of mode uid gid) [] (omega arith, omega arith) (All-nil (λ n. (1 ≤ n.ino) × (n.ino < 2)));
+      numbers = All-cons (λ n. (1 ≤ n.ino) × (n.ino < next)) (root_of mode uid gid) [] (omega arith, omega arith) (All-nil (λ n. (1 ≤ n.ino) × (n.ino < next)));
       number_once = All-cons (λ n. node_of (root_of mode uid gid ∷ []) n.ino ≡ Some n) (root_of mode uid gid) [] refl (All-nil (λ n. node_of (root_of mode uid gid ∷ []) n.ino ≡ Some n));
       modes = All-cons (λ n. n.mode ≤ 511) (root_of mode uid gid) [] m (All-nil (λ n. n.mode ≤ 511));
       owners = All-cons (λ n. (n.uid < 2 ^ 32) × (n.gid < 2 ^ 32)) (root_of mode uid gid) [] (u, g) (All-nil (λ n. (n.uid < 2 ^ 32) × (n.gid < 2 ^ 32)));

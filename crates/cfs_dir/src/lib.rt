@@ -21,3 +21,6 @@ pub use posix::Posix;
 pub use refusal::TreeRefusal;
 pub use rules::DEEPEST;
 pub use tree::{INODE_END, RECORDS, Tree};
+
+#[cfg(test)]
+mod tests;

@@ -28,7 +28,7 @@ pub const RECORDS: usize = 256;
 pub const INODE_END: u64 = 4_294_967_296;
 
 /// The files and directories of a file system, by their names.
-#[derive(Drop)]
+#[derive(Debug, Drop)]
 pub struct Tree {
     /// The node of each record.
     slots: Vec<Option<Node>>,
