@@ -1,5 +1,9 @@
 -- The text of a path: `/`, or one to 64 times `/` and a name.
 use Rattle.std.specs.Prelude.{◌≡◌, ℕ, ◌≤◌, List, [], ◌∷◌, Bool, ◌==◌, ◌++◌, All, length}
+use Rattle.std.specs.Str.{bytes_eq}
+use Rattle.std.specs.Cmp.{IsEquivalence}
+use Rattle.std.proofs.lemmas.Cmp.{lists_equiv, nat_list_eq_equiv}
+use lib.Pointwise.{pointwise}
 use Rattle.cfs_dir.specs.Name.{AreNameBytes}
 
 -- a name as a path may write it; the tree refuses one that is too long for a node
@@ -30,3 +34,10 @@ text_of (name ∷ names) = behind_slashes (name ∷ names)
 pub record IsPathText (text : List ℕ) (names : List (List ℕ)) : Type 0 where
   pub names_are : ArePathNames names
   pub text_is : text_of names ≡ text
+
+-- what `==` of two paths answers
+abbrev pub same_names : List (List ℕ) → List (List ℕ) → Bool
+same_names = pointwise bytes_eq
+
+pub same_names-laws : IsEquivalence same_names
+same_names-laws = lists_equiv nat_list_eq_equiv

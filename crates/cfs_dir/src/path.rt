@@ -15,7 +15,7 @@ pub const MOST_NAMES: usize = 64;
 pub const LONGEST_COMPONENT: usize = 200;
 
 /// A name of a path: 1 to 200 letters, digits, `.`, `_` and `-`.
-#[derive(Debug, Drop)]
+#[derive(Clone, Debug, Drop)]
 pub struct Component {
     bytes: Vec<u8>,
 }
@@ -49,8 +49,27 @@ impl Component {
     }
 }
 
+impl PartialEq for Component {
+    ghost use Rattle.std.specs.Str.{bytes_eq};
+    ghost use Rattle.std.proofs.Common.{rules};
+
+    ghost eq = { bytes_eq };
+
+    ghost laws = { Prim.search rules };
+
+    fn eq(&self, other: &Component) -> bool {
+        self.as_bytes() == other.as_bytes()
+    }
+}
+
+impl Eq for Component {
+    ghost use Rattle.std.proofs.Common.{rules};
+
+    ghost laws = { Prim.search rules };
+}
+
 /// A path from the root, by its names; the root has none.
-#[derive(Debug, Drop)]
+#[derive(Clone, Debug, Drop)]
 pub struct Path {
     names: Vec<Component>,
 }
@@ -64,6 +83,25 @@ impl Model for Path {
     ghost view = { λ p. p.names.items };
 
     ghost invariant = { λ p. ArePathNames p.names.items };
+}
+
+impl PartialEq for Path {
+    ghost use Rattle.std.specs.Cmp.{partial_equiv_from_equiv};
+    ghost use Rattle.cfs_dir.specs.Path.{same_names, same_names-laws};
+
+    ghost eq = { same_names };
+
+    ghost laws = { partial_equiv_from_equiv same_names-laws };
+
+    fn eq(&self, other: &Path) -> bool {
+        self.names.as_slice() == other.names.as_slice()
+    }
+}
+
+impl Eq for Path {
+    ghost use Rattle.cfs_dir.specs.Path.{same_names-laws};
+
+    ghost laws = { same_names-laws };
 }
 
 /// Why bytes are no path.

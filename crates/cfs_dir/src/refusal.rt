@@ -5,7 +5,7 @@ use thiserror::Error;
 #[derive(Clone, Copy, Debug, PartialEq, Eq, Error)]
 pub enum TreeRefusal {
     /// The rules refuse it.
-    #[error("refused: {0:?}")]
+    #[error("{0}")]
     Refused(Posix),
     /// There was no memory for it.
     #[error("out of memory")]

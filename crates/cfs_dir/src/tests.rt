@@ -1,37 +1,84 @@
-ghost use Rattle.std.specs.Prelude.{◌≡◌, ◌<◌, IfOk, None};
+ghost use Rattle.std.specs.Prelude.{◌≡◌, ◌<◌, None};
 ghost use Rattle.std.specs.Option.{ForSome};
 ghost use Rattle.cfs_dir.specs.Namespace.{node_at};
 
-use crate::{Kind, Name, Node, Path, PathRefusal, Posix, Tree, TreeRefusal};
+use crate::{Kind, Name, Node, Path, Tree, TreeRefusal};
 use cfs_cred::Credential;
 use std::alloc::{AllocError, Global};
+use std::process::Abort;
 use std::test::Fail;
 
-const ADMIN: Credential = Credential { uid: 0, gid: 0 };
+/// Calls in order on a tree whose root is open to all. A line has a user, whose group has the same
+/// number, a call, its mode, its path, and the inode number or the refusal that it answers.
+const CALLS: &str = "\
+10 mkdir 755 /d 2
+10 mkdir 755 /d EEXIST
+10 create 644 /d/f 3
+10 create 644 /d/f EEXIST
+10 create 644 /d EEXIST
+10 lookup 0 /d 2
+10 lookup 0 /d/f 3
+10 lookup 0 /none ENOENT
+10 lookup 0 /none/f ENOENT
+10 lookup 0 /d/f/g ENOTDIR
+10 lookup 0 /./f EINVAL
+10 lookup 0 /d/.. EINVAL
+10 rmdir 0 /d ENOTEMPTY
+10 rmdir 0 /d/f ENOTDIR
+10 rmdir 0 /none ENOENT
+10 unlink 0 /d EISDIR
+10 unlink 0 /none ENOENT
+20 create 644 /d/g EACCES
+20 create 644 /d/f EEXIST
+20 unlink 0 /d/f EACCES
+20 unlink 0 /d/none ENOENT
+10 mkdir 700 /p 4
+10 create 644 /p/f 5
+20 lookup 0 /p 4
+20 lookup 0 /p/f EACCES
+20 lookup 0 /p/none EACCES
+20 lookup 0 /p/f/g EACCES
+0 lookup 0 /p/f 5
+10 mkdir 007 /s 6
+10 lookup 0 /s/f EACCES
+20 lookup 0 /s/f ENOENT
+20 create 644 /s/f 7
+0 lookup 0 / 1
+0 create 644 / EEXIST
+0 mkdir 755 / EEXIST
+0 unlink 0 / EISDIR
+0 rmdir 0 / EINVAL
+0 lookup 0 /aaaaaaaaaaaaaaaaaaaaaaaaaaaaaaaaaaaaaaaa ENOENT
+0 lookup 0 /aaaaaaaaaaaaaaaaaaaaaaaaaaaaaaaaaaaaaaaaa ENAMETOOLONG
+0 lookup 0 /./aaaaaaaaaaaaaaaaaaaaaaaaaaaaaaaaaaaaaaaaa EINVAL
+0 lookup 0 /a/b/c/d/e/f/g/h/i/j/k/l/m/n/o/p ENOENT
+0 lookup 0 /a/b/c/d/e/f/g/h/i/j/k/l/m/n/o/p/q ENAMETOOLONG
+10 unlink 0 /d/f 3
+10 create 644 /d/f 8
+10 unlink 0 /d/f 8
+10 rmdir 0 /d 2
+10 lookup 0 /d ENOENT
+";
 
-const USER: Credential = Credential { uid: 10, gid: 10 };
+/// Calls on a tree of user 10 that has 255 directories under its root.
+const CALLS_WITHOUT_RECORD: &str = "\
+10 mkdir 755 /more ENFILE
+10 create 644 /more ENFILE
+10 create 644 /n7 EEXIST
+20 create 644 /more EACCES
+10 create 644 /none/f ENOENT
+10 rmdir 0 /n7 9
+10 create 644 /n7 257
+10 create 644 /more ENFILE
+";
 
-const OTHER: Credential = Credential { uid: 20, gid: 20 };
-
-const NAME_OF_40: &str = "/aaaaaaaaaaaaaaaaaaaaaaaaaaaaaaaaaaaaaaaa";
-
-const NAME_OF_41: &str = "/aaaaaaaaaaaaaaaaaaaaaaaaaaaaaaaaaaaaaaaaa";
-
-const DOTS_AND_NAME_OF_41: &str = "/./aaaaaaaaaaaaaaaaaaaaaaaaaaaaaaaaaaaaaaaaa";
-
-const PATH_OF_16: &str = "/a/b/c/d/e/f/g/h/i/j/k/l/m/n/o/p";
-
-const PATH_OF_17: &str = "/a/b/c/d/e/f/g/h/i/j/k/l/m/n/o/p/q";
-
-/// A call on the tree, with the mode that it takes.
-#[derive(Clone, Copy, Debug)]
-enum Call {
-    Lookup,
-    Create(u16),
-    Mkdir(u16),
-    Unlink,
-    Rmdir,
-}
+/// Calls on a tree of user 10 that has one inode number left.
+const CALLS_WITHOUT_NUMBER: &str = "\
+10 create 644 /a 4294967295
+10 create 644 /b ENFILE
+10 unlink 0 /a 4294967295
+10 mkdir 755 /a ENFILE
+";
 
 /// The lowest record without a node.
 fn free_record(tree: &Tree) -> Option<u32>
@@ -45,149 +92,75 @@ fn free_record(tree: &Tree) -> Option<u32>
     None
 }
 
-/// Makes a call, and gives the inode number of the node that it answers.
-fn answer(
+/// Makes a call, by its name.
+fn call(
     tree: &mut Tree,
     credential: Credential,
-    call: Call,
+    name: &str,
+    mode: u16,
     path: &Path,
-) -> Result<u64, TreeRefusal> {
+) -> Result<Node, TreeRefusal> {
     let rec = free_record(tree);
-    let node = match call {
-        Call::Lookup => tree.lookup(credential, path)?,
-        Call::Create(mode) => tree.create(credential, path, mode.min(0o777), rec)?,
-        Call::Mkdir(mode) => tree.mkdir(credential, path, mode.min(0o777), rec)?,
-        Call::Unlink => tree.unlink(credential, path)?,
-        Call::Rmdir => tree.rmdir(credential, path)?,
-    };
-    Ok(node.ino)
+    let mode = mode.min(0o777);
+    match name {
+        "lookup" => tree.lookup(credential, path),
+        "create" => tree.create(credential, path, mode, rec),
+        "mkdir" => tree.mkdir(credential, path, mode, rec),
+        "unlink" => tree.unlink(credential, path),
+        _ => tree.rmdir(credential, path),
+    }
 }
 
-/// Each row: a user, a call, its path, and the inode number or the refusal that it answers.
+/// Makes the call of a line, and compares its answer.
+fn run_line(rt: &impl Abort, alloc: Global, tree: &mut Tree, line: &str) -> Result<(), Fail> {
+    let mut words = line.split_whitespace();
+    let user = words.next().ok_or("user")?.parse::<u32>()?;
+    let name = words.next().ok_or("call")?;
+    let mode = u16::from_str_radix(words.next().ok_or("mode")?, 8)?;
+    let path = Path::parse(alloc, words.next().ok_or("path")?.as_bytes())?;
+    let want = words.next().ok_or("answer")?;
+    let credential = Credential {
+        uid: user,
+        gid: user,
+    };
+    let given = match call(tree, credential, name, mode, &path) {
+        Ok(node) => format!(in alloc; "{}", node.ino)?,
+        Err(refusal) => format!(in alloc; "{refusal}")?,
+    };
+    assert_eq!(rt; given.as_str(), want, "{line}");
+    Ok(())
+}
+
+fn run(rt: &impl Abort, alloc: Global, tree: &mut Tree, calls: &str) -> Result<(), Fail> {
+    for line in calls.lines() {
+        run_line(rt, alloc, tree, line)?;
+    }
+    Ok(())
+}
+
 #[test]
 fn calls_in_order(rt: HostRuntime) -> Result<(), Fail> {
-    let rows = [
-        (USER, Call::Mkdir(0o755), "/d", Ok(2)),
-        (USER, Call::Mkdir(0o755), "/d", Err(Posix::AlreadyExists)),
-        (USER, Call::Create(0o644), "/d/f", Ok(3)),
-        (USER, Call::Create(0o644), "/d/f", Err(Posix::AlreadyExists)),
-        (USER, Call::Create(0o644), "/d", Err(Posix::AlreadyExists)),
-        (USER, Call::Lookup, "/d", Ok(2)),
-        (USER, Call::Lookup, "/d/f", Ok(3)),
-        (USER, Call::Lookup, "/none", Err(Posix::NotFound)),
-        (USER, Call::Lookup, "/none/f", Err(Posix::NotFound)),
-        (USER, Call::Lookup, "/d/f/g", Err(Posix::NotADirectory)),
-        (USER, Call::Lookup, "/./f", Err(Posix::InvalidArgument)),
-        (USER, Call::Lookup, "/d/..", Err(Posix::InvalidArgument)),
-        (USER, Call::Rmdir, "/d", Err(Posix::DirectoryNotEmpty)),
-        (USER, Call::Rmdir, "/d/f", Err(Posix::NotADirectory)),
-        (USER, Call::Rmdir, "/none", Err(Posix::NotFound)),
-        (USER, Call::Unlink, "/d", Err(Posix::IsADirectory)),
-        (USER, Call::Unlink, "/none", Err(Posix::NotFound)),
-        (
-            OTHER,
-            Call::Create(0o644),
-            "/d/g",
-            Err(Posix::PermissionDenied),
-        ),
-        (
-            OTHER,
-            Call::Create(0o644),
-            "/d/f",
-            Err(Posix::AlreadyExists),
-        ),
-        (OTHER, Call::Unlink, "/d/f", Err(Posix::PermissionDenied)),
-        (OTHER, Call::Unlink, "/d/none", Err(Posix::NotFound)),
-        (USER, Call::Mkdir(0o700), "/p", Ok(4)),
-        (USER, Call::Create(0o644), "/p/f", Ok(5)),
-        (OTHER, Call::Lookup, "/p", Ok(4)),
-        (OTHER, Call::Lookup, "/p/f", Err(Posix::PermissionDenied)),
-        (OTHER, Call::Lookup, "/p/none", Err(Posix::PermissionDenied)),
-        (OTHER, Call::Lookup, "/p/f/g", Err(Posix::PermissionDenied)),
-        (ADMIN, Call::Lookup, "/p/f", Ok(5)),
-        (USER, Call::Mkdir(0o007), "/s", Ok(6)),
-        (USER, Call::Lookup, "/s/f", Err(Posix::PermissionDenied)),
-        (OTHER, Call::Lookup, "/s/f", Err(Posix::NotFound)),
-        (OTHER, Call::Create(0o644), "/s/f", Ok(7)),
-        (ADMIN, Call::Lookup, "/", Ok(1)),
-        (ADMIN, Call::Create(0o644), "/", Err(Posix::AlreadyExists)),
-        (ADMIN, Call::Mkdir(0o755), "/", Err(Posix::AlreadyExists)),
-        (ADMIN, Call::Unlink, "/", Err(Posix::IsADirectory)),
-        (ADMIN, Call::Rmdir, "/", Err(Posix::InvalidArgument)),
-        (ADMIN, Call::Lookup, NAME_OF_40, Err(Posix::NotFound)),
-        (ADMIN, Call::Lookup, NAME_OF_41, Err(Posix::NameTooLong)),
-        (
-            ADMIN,
-            Call::Lookup,
-            DOTS_AND_NAME_OF_41,
-            Err(Posix::InvalidArgument),
-        ),
-        (ADMIN, Call::Lookup, PATH_OF_16, Err(Posix::NotFound)),
-        (ADMIN, Call::Lookup, PATH_OF_17, Err(Posix::NameTooLong)),
-        (USER, Call::Unlink, "/d/f", Ok(3)),
-        (USER, Call::Create(0o644), "/d/f", Ok(8)),
-        (USER, Call::Unlink, "/d/f", Ok(8)),
-        (USER, Call::Rmdir, "/d", Ok(2)),
-        (USER, Call::Lookup, "/d", Err(Posix::NotFound)),
-    ];
     let mut tree = Tree::with_root(rt.alloc(), 0o777, 0, 0)?;
-    for (credential, made, text, want) in rows {
-        let path = Path::parse(rt.alloc(), text.as_bytes())?;
-        let given = answer(&mut tree, credential, made, &path);
-        assert_eq!(rt;
-            given,
-            want.map_err(TreeRefusal::Refused),
-            "{made:?} {text}"
-        );
-    }
+    run(&rt, rt.alloc(), &mut tree, CALLS)?;
     assert_eq!(rt; tree.next(), 9);
     Ok(())
 }
 
-/// With 255 directories under the root no record is left: each call but a look-up is refused in its
-/// order, until a node is removed.
 #[test]
 fn full_table(rt: HostRuntime) -> Result<(), Fail> {
     let mut tree = Tree::with_root(rt.alloc(), 0o755, 10, 10)?;
     for number in 0..255 {
-        let text = format!(in rt.alloc(); "/n{number}")?;
-        let path = Path::parse(rt.alloc(), text.as_bytes())?;
-        let given = answer(&mut tree, USER, Call::Mkdir(0o755), &path);
-        assert_eq!(rt; given, Ok(number + 2));
+        let line = format!(in rt.alloc(); "10 mkdir 755 /n{number} {}", number + 2)?;
+        run_line(&rt, rt.alloc(), &mut tree, line.as_str())?;
     }
-    let rows = [
-        (USER, Call::Mkdir(0o755), "/more", Err(Posix::TooManyFiles)),
-        (USER, Call::Create(0o644), "/more", Err(Posix::TooManyFiles)),
-        (USER, Call::Create(0o644), "/n7", Err(Posix::AlreadyExists)),
-        (
-            OTHER,
-            Call::Create(0o644),
-            "/more",
-            Err(Posix::PermissionDenied),
-        ),
-        (USER, Call::Create(0o644), "/none/f", Err(Posix::NotFound)),
-        (USER, Call::Rmdir, "/n7", Ok(9)),
-        (USER, Call::Create(0o644), "/n7", Ok(257)),
-        (USER, Call::Create(0o644), "/more", Err(Posix::TooManyFiles)),
-    ];
-    for (credential, made, text, want) in rows {
-        let path = Path::parse(rt.alloc(), text.as_bytes())?;
-        let given = answer(&mut tree, credential, made, &path);
-        assert_eq!(rt;
-            given,
-            want.map_err(TreeRefusal::Refused),
-            "{made:?} {text}"
-        );
-    }
-    let node = tree.node(8).copied();
+    run(&rt, rt.alloc(), &mut tree, CALLS_WITHOUT_RECORD)?;
+    let node = tree.node(8).ok_or("no node")?;
+    assert_eq!(rt; (node.ino, node.parent, node.kind), (257, 1, Kind::File));
     assert_eq!(rt;
-        node.map(|node| (node.ino, node.parent, node.kind)),
-        Some((257, 1, Kind::File))
+        (node.mode, node.uid, node.gid, node.rec),
+        (0o644, 10, 10, 8)
     );
-    assert_eq!(rt;
-        node.map(|node| (node.mode, node.uid, node.gid)),
-        Some((0o644, 10, 10))
-    );
+    assert_eq!(rt; node.name.as_bytes(), b"n7".as_slice());
     assert!(rt; tree.node(256).is_none());
     Ok(())
 }
@@ -211,86 +184,89 @@ fn tree_of_last_number(alloc: Global) -> Result<Tree, AllocError> {
 #[test]
 fn last_inode_number(rt: HostRuntime) -> Result<(), Fail> {
     let mut tree = tree_of_last_number(rt.alloc())?;
-    let rows = [
-        (Call::Create(0o644), "/a", Ok(4_294_967_295)),
-        (Call::Create(0o644), "/b", Err(Posix::TooManyFiles)),
-        (Call::Unlink, "/a", Ok(4_294_967_295)),
-        (Call::Mkdir(0o755), "/a", Err(Posix::TooManyFiles)),
-    ];
-    for (made, text, want) in rows {
-        let path = Path::parse(rt.alloc(), text.as_bytes())?;
-        let given = answer(&mut tree, USER, made, &path);
-        assert_eq!(rt;
-            given,
-            want.map_err(TreeRefusal::Refused),
-            "{made:?} {text}"
-        );
-    }
+    run(&rt, rt.alloc(), &mut tree, CALLS_WITHOUT_NUMBER)?;
     assert_eq!(rt; tree.next(), 4_294_967_296);
     Ok(())
 }
 
-/// Each row: a text, and how many names its path has, if it is one.
+/// Texts of paths, a line each.
+const PATHS: &str = "\
+/
+/a
+/a/b.c/d_e/f-g/0
+/./..
+/a/b/c/d/e/f/g/h/i/j/k/l/m/n/o/p/q
+/aaaaaaaaaaaaaaaaaaaaaaaaaaaaaaaaaaaaaaaaa
+";
+
+/// Texts that are no paths, a line each; the first is empty.
+const NO_PATHS: &str = "\
+
+a
+a/b
+//
+/a/
+/a//b
+/a b
+/a\u{e9}
+";
+
+fn is_path(alloc: Global, text: &str) -> bool {
+    Path::parse(alloc, text.as_bytes()).is_ok()
+}
+
+/// A text, so many times in a row.
+fn repeated(alloc: Global, text: &str, times: u32) -> Result<String, AllocError> {
+    let mut all = String::new(alloc);
+    for _ in 0..times {
+        all.push_str(text)?;
+    }
+    Ok(all)
+}
+
 #[test]
 fn texts_of_paths(rt: HostRuntime) -> Result<(), Fail> {
-    let rows = [
-        ("/", Some(0)),
-        ("/a", Some(1)),
-        ("/a/b.c/d_e/f-g/0", Some(5)),
-        ("/./..", Some(2)),
-        (PATH_OF_17, Some(17)),
-        (NAME_OF_41, Some(1)),
-        ("", None),
-        ("a", None),
-        ("a/b", None),
-        ("//", None),
-        ("/a/", None),
-        ("/a//b", None),
-        ("/a b", None),
-        ("/a\u{e9}", None),
-    ];
-    for (text, want) in rows {
-        let path = Path::parse(rt.alloc(), text.as_bytes());
-        let count = path.map(|path| path.names().len());
-        assert_eq!(rt; count, want.ok_or(PathRefusal::Malformed), "{text}");
+    for text in PATHS.lines() {
+        assert!(rt; is_path(rt.alloc(), text), "{text}");
     }
-    for (name, times, want) in [
-        ("a", 200, true),
-        ("a", 201, false),
-        ("/a", 64, true),
-        ("/a", 65, false),
-    ] {
-        let mut text = String::new(rt.alloc());
-        if times > 100 {
-            text.push('/')?;
-        }
-        for _ in 0..times {
-            text.push_str(name)?;
-        }
-        let path = Path::parse(rt.alloc(), text.as_bytes());
-        assert_eq!(rt; path.is_ok(), want, "{times} times {name}");
+    for text in NO_PATHS.lines() {
+        assert!(rt; !is_path(rt.alloc(), text), "{text}");
     }
+    let most = repeated(rt.alloc(), "/a", 64)?;
+    assert!(rt; is_path(rt.alloc(), most.as_str()));
+    let too_many = repeated(rt.alloc(), "/a", 65)?;
+    assert!(rt; !is_path(rt.alloc(), too_many.as_str()));
+    let name = repeated(rt.alloc(), "a", 200)?;
+    let longest = format!(in rt.alloc(); "/{name}")?;
+    assert!(rt; is_path(rt.alloc(), longest.as_str()));
+    let too_long = format!(in rt.alloc(); "/{name}a")?;
+    assert!(rt; !is_path(rt.alloc(), too_long.as_str()));
     Ok(())
 }
 
-/// Each row: bytes, and whether they are a node's name.
+/// Names of nodes, a line each.
+const NAMES: &str = "\
+a
+Zz09._-
+aaaaaaaaaaaaaaaaaaaaaaaaaaaaaaaaaaaaaaaa
+";
+
+/// Texts that are no names of nodes, a line each; the first is empty.
+const NO_NAMES: &str = "\
+
+aaaaaaaaaaaaaaaaaaaaaaaaaaaaaaaaaaaaaaaaa
+a/b
+a b
+";
+
 #[test]
-fn names_of_nodes(rt: HostRuntime) {
-    let rows = [
-        ("a", true),
-        ("Zz09._-", true),
-        ("aaaaaaaaaaaaaaaaaaaaaaaaaaaaaaaaaaaaaaaa", true),
-        ("aaaaaaaaaaaaaaaaaaaaaaaaaaaaaaaaaaaaaaaaa", false),
-        ("", false),
-        ("a/b", false),
-        ("a\0", false),
-    ];
-    for (text, want) in rows {
-        let name = Name::parse(text.as_bytes());
-        assert_eq!(rt; name.is_some(), want, "{text}");
-        if let Some(name) = name {
-            assert_eq!(rt; name.as_bytes(), text.as_bytes());
-            assert_eq!(rt; Name::parse(name.as_bytes()), Some(name));
-        }
+fn names_of_nodes(rt: HostRuntime) -> Result<(), Fail> {
+    for text in NAMES.lines() {
+        let name = Name::parse(text.as_bytes()).ok_or("no name")?;
+        assert!(rt; name.as_bytes() == text.as_bytes(), "{text}");
     }
+    for text in NO_NAMES.lines() {
+        assert!(rt; Name::parse(text.as_bytes()).is_none(), "{text}");
+    }
+    Ok(())
 }
