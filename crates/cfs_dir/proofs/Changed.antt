@@ -1,11 +1,10 @@
 -- The table after a node has joined or left.
-use Rattle.std.proofs.Common.{◌≡◌, ◌≢◌, ℕ, ◌+◌, ◌<◌, ◌^◌, List, [], ◌∷◌, length, Bool, true, false, not, cond, inl, inr, refl, sym, ◌∙◌, ap, subst, arith}
+use Rattle.std.proofs.Common.{◌≡◌, ℕ, ◌+◌, ◌<◌, ◌^◌, List, [], ◌∷◌, false, inl, inr, refl, sym, ◌∙◌, ap, subst, arith}
 use Rattle.std.proofs.Math.ListN.{set, length-set}
-use Rattle.std.specs.Prelude.{Option, Some, None, Ok, Result, All, nat_eq, nat_lt}
+use Rattle.std.specs.Prelude.{Option, Some, None, Ok, nat_eq, nat_lt}
 use Rattle.std.specs.Option.{option_map}
 use Rattle.std.proofs.lemmas.Bool.{cases_Bool, cond-true, cond-false}
 use Rattle.cfs_cred.specs.declared.credential.Credential.{Credential}
-use Rattle.cfs_dir.specs.declared.kind.Kind.{Kind}
 use Rattle.cfs_dir.specs.declared.node.Node.{Node}
 use Rattle.cfs_dir.specs.declared.place.Place.TheVariants.{Entry}
 use Rattle.cfs_dir.specs.Path.{ArePathNames}
@@ -18,7 +17,7 @@ use Rattle.cfs_dir.proofs.Grown.{IsNew, IsTree-placed, child_of-new}
 use Rattle.cfs_dir.proofs.Indexed.{IsUpdated, key_of, IsIndex-placed, IsIndex-without}
 use Rattle.cfs_dir.proofs.Members.{In, All-In, find-Some}
 use Rattle.cfs_dir.proofs.Shrunk.{IsLeaf, file-leaf, no_child, IsTree-without}
-use Rattle.cfs_dir.proofs.Slots.{slot_at, node_at-nodes_of, nodes_of-set_some, nodes_of-set_none, AreAtRecords-set_some, AreAtRecords-set_none}
+use Rattle.cfs_dir.proofs.Slots.{node_at-nodes_of, nodes_of-set_some, nodes_of-set_none, AreAtRecords-set_some, AreAtRecords-set_none}
 use Rattle.cfs_dir.proofs.Walked.{IsPlace, child-parts, is_directory-false, place_of-Entry}
 
 -- what the fields of a tree are seen as

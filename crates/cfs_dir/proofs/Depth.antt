@@ -1,12 +1,12 @@
 -- How far the root is above a node, in a tree with one node more or one less.
-use Rattle.std.proofs.Common.{◌≡◌, ◌≢◌, ℕ, zero, suc, ◌+◌, ◌≤◌, List, [], ◌∷◌, Bool, true, false, not, cond, ◌||◌, inl, inr, refl, sym, ◌∙◌, ap, subst, arith}
-use Rattle.std.specs.Prelude.{Option, Some, None, nat_eq}
+use Rattle.std.proofs.Common.{◌≡◌, ◌≢◌, ℕ, zero, suc, ◌+◌, List, true, false, not, inl, inr, refl, sym, ◌∙◌, ap, subst, arith}
+use Rattle.std.specs.Prelude.{Some, None, nat_eq}
 use Rattle.std.specs.Option.{option_map_or}
 use Rattle.std.proofs.lemmas.Bool.{cases_Bool, cond-true, cond-false, eq-eqb, ne_eqb, eqb-true, eqb-false}
 use Rattle.cfs_dir.specs.declared.node.Node.{Node}
 use Rattle.cfs_dir.specs.Namespace.{node_at, node_of, placed, without}
 use Rattle.cfs_dir.specs.Tree.{leads_to_root}
-use Rattle.cfs_dir.proofs.Members.{In, find-Some, find-placed_other, find-placed_same, find-filter_kept}
+use Rattle.cfs_dir.proofs.Members.{In, find-Some, find-placed_other, find-filter_kept}
 
 -- where a number leads to the root by one step more: it is the root's, or its node's parent leads there
 pub leads-cases : (steps : ℕ) (nodes : List Node) (ino : ℕ) → leads_to_root (suc steps) nodes ino ≡ true → ino ≢ 1

@@ -1,15 +1,12 @@
 -- What the look-ups by record, by inode number and by name find in a tree.
-use Rattle.std.proofs.Common.{◌≡◌, ℕ, suc, ◌+◌, ◌≤◌, ◌<◌, List, [], ◌∷◌, Bool, true, false, cond, ◌⊎◌, inl, inr, refl, sym, ◌∙◌, ap, subst, arith}
-use Rattle.std.specs.Prelude.{Option, Some, None, find, nat_eq, slice_get}
-use Rattle.std.specs.Option.{option_map, option_and_then}
-use Rattle.std.proofs.lemmas.Bool.{cases_Bool, cond-true, cond-false, eq-eqb, ne_eqb}
+use Rattle.std.proofs.Common.{◌≡◌, ℕ, suc, ◌≤◌, List, [], ◌∷◌, inl, inr, refl, ◌∙◌, ap, subst, arith}
+use Rattle.std.specs.Prelude.{Some, None, nat_eq}
+use Rattle.std.specs.Option.{option_map}
+use Rattle.std.proofs.lemmas.Bool.{cond-true, cond-false, eq-eqb, ne_eqb}
 use Rattle.cfs_dir.specs.declared.node.Node.{Node}
-use Rattle.cfs_dir.specs.declared.child.Child.{Child}
-use Rattle.cfs_dir.specs.Namespace.{Namespace, node_at, child_of, is_child}
-use Rattle.cfs_dir.specs.Tree.{AreAscendingFrom, IsTree}
-use Rattle.cfs_dir.specs.Table.{IsTable, nodes_of, AreAtRecords}
+use Rattle.cfs_dir.specs.Namespace.{node_at, child_of, is_child}
+use Rattle.cfs_dir.specs.Tree.{AreAscendingFrom}
 use Rattle.cfs_dir.proofs.Members.{In, find-Some}
-use Rattle.cfs_dir.proofs.Slots.{slot_is_node}
 
 pub rec-least : (least : ℕ) (nodes : List Node) (node : Node) → AreAscendingFrom least nodes → In nodes node → least ≤ node.rec
 rec-least least [] node h m = absurd m

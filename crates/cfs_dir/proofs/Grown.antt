@@ -1,17 +1,17 @@
 -- A tree with one more node is a tree.
-use Rattle.std.proofs.Common.{◌≡◌, ◌≢◌, ℕ, zero, suc, ◌+◌, ◌≤◌, ◌<◌, ◌^◌, List, [], ◌∷◌, Bool, true, false, cond, inl, inr, refl, sym, ◌∙◌, ap, subst, arith}
-use Rattle.std.specs.Prelude.{Option, Some, None, IsSomeAnd, All, find, nat_eq, nat_lt}
+use Rattle.std.proofs.Common.{◌≡◌, ◌≢◌, ℕ, suc, ◌+◌, ◌≤◌, ◌<◌, ◌^◌, List, [], ◌∷◌, true, false, inl, inr, refl, sym, ◌∙◌, ap, subst, arith}
+use Rattle.std.specs.Prelude.{Option, Some, None, IsSomeAnd, All, nat_eq, nat_lt}
 use Rattle.std.specs.Str.{bytes_eq}
-use Rattle.std.proofs.lemmas.Bool.{cases_Bool, cond-true, cond-false, eq-eqb, ne_eqb, eqb-true, eqb-false, ltb-true, ltb-false, and_parts, and_from}
+use Rattle.std.proofs.lemmas.Bool.{cases_Bool, cond-true, cond-false, eq-eqb, ne_eqb, eqb-true, ltb-true, ltb-false, and_parts, and_from}
 use Rattle.std.proofs.lemmas.Slice.Eq.{bytes_eq-Decides}
 use Rattle.cfs_dir.specs.declared.kind.Kind.TheVariants.{Directory}
 use Rattle.cfs_dir.specs.declared.node.Node.{Node}
 use Rattle.cfs_dir.specs.Name.{IsNodeName}
 use Rattle.cfs_dir.specs.Namespace.{node_at, node_of, child_of, is_child, placed}
 use Rattle.cfs_dir.specs.Tree.{AreAscendingFrom, IsTree, IsRoot, leads_to_root}
-use Rattle.cfs_dir.proofs.Members.{In, All-In, All-from_In, In-placed, find-Some, find-None, find-none_of, find-placed_other, find-placed_same}
+use Rattle.cfs_dir.proofs.Members.{In, All-In, All-from_In, In-placed, find-none_of, find-placed_other, find-placed_same}
 use Rattle.cfs_dir.proofs.Depth.{leads-step, leads-placed}
-use Rattle.cfs_dir.proofs.Walked.{IsDirectoryIn, IsPlace}
+use Rattle.cfs_dir.proofs.Walked.{IsPlace}
 
 -- what a node has to be to join a tree
 pub record IsNew (nodes : List Node) (next : ℕ) (directory node : Node) : Type 0 where

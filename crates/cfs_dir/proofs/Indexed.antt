@@ -1,16 +1,16 @@
 -- The index after a node is placed or removed.
-use Rattle.std.proofs.Common.{◌≡◌, ◌≢◌, ℕ, List, Bool, true, false, not, cond, inl, inr, refl, sym, ◌∙◌, ap, subst, arith}
+use Rattle.std.proofs.Common.{◌≡◌, ◌≢◌, ℕ, List, true, false, not, cond, inl, inr, refl, sym, ◌∙◌, ap}
 use Rattle.std.specs.Prelude.{Option, Some, None, nat_eq}
 use Rattle.std.specs.Option.{option_map}
 use Rattle.std.specs.HashMap.{get}
 use Rattle.std.proofs.lemmas.Bool.{cases_Bool, cond-true, cond-false, eq-eqb}
 use Rattle.cfs_dir.specs.declared.child.Child.{Child}
 use Rattle.cfs_dir.specs.declared.node.Node.{Node}
-use Rattle.cfs_dir.specs.Namespace.{node_at, child_of, is_child, placed, without}
+use Rattle.cfs_dir.specs.Namespace.{child_of, is_child, placed, without}
 use Rattle.cfs_dir.specs.Tree.{IsTree}
 use Rattle.cfs_dir.specs.Table.{Index, IsIndex, same_child}
 use Rattle.cfs_dir.proofs.Members.{In, All-In, In-filter, find-Some, find-None, find-none_of, find-placed_other, find-placed_same, find-filter_kept, find-filter_gone}
-use Rattle.cfs_dir.proofs.Grown.{is_child-own, is_child-parts}
+use Rattle.cfs_dir.proofs.Grown.{is_child-parts}
 use Rattle.cfs_dir.proofs.Shrunk.{kept-other}
 
 -- the index finds a value at one key, and what it found before at every other key

@@ -1,18 +1,18 @@
 -- A table that is made of a list of nodes, one after another.
-use Rattle.std.proofs.Common.{◌≡◌, ◌≢◌, ℕ, zero, suc, ◌+◌, ◌≤◌, ◌<◌, List, [], ◌∷◌, ◌++◌, length, take, drop, get_or, Bool, true, false, not, cond, inl, inr, refl, sym, ◌∙◌, ap, subst, arith, add-one, ◌^◌}
+use Rattle.std.proofs.Common.{◌≡◌, ◌≢◌, ℕ, zero, suc, ◌+◌, ◌≤◌, ◌<◌, List, [], ◌∷◌, length, take, get_or, true, inl, inr, refl, sym, ◌∙◌, ap, subst, arith, add-one, ◌^◌}
 use Rattle.std.proofs.Math.ListN.{set, length-set}
-use Rattle.std.specs.Prelude.{Option, Some, None, IsSomeAnd, All, nat_eq, nat_lt, replicate}
+use Rattle.std.specs.Prelude.{Option, Some, None, IsSomeAnd, nat_eq, nat_lt, replicate}
 use Rattle.std.specs.Option.{option_map}
-use Rattle.std.proofs.lemmas.Bool.{cases_Bool, cond-true, cond-false, lt-ltb, ne_eqb, and_left}
+use Rattle.std.proofs.lemmas.Bool.{cases_Bool, cond-true, lt-ltb, ne_eqb}
 use Rattle.std.proofs.lemmas.List.Elements.{All-cons, All-nil}
 use Rattle.cfs_dir.specs.declared.kind.Kind.TheVariants.{Directory}
 use Rattle.cfs_dir.specs.declared.node.Node.{Node}
 use Rattle.cfs_dir.specs.Name.{IsNodeName}
 use Rattle.cfs_dir.specs.Namespace.{node_at, node_of, child_of, is_child, placed}
-use Rattle.cfs_dir.specs.Tree.{AreAscendingFrom, IsTree, IsRoot, leads_to_root, root_of}
+use Rattle.cfs_dir.specs.Tree.{AreAscendingFrom, IsTree, leads_to_root, root_of}
 use Rattle.cfs_dir.specs.Table.{AreListed, AreAtRecords, Index, IsIndex, IsTableOf, nodes_of}
 use Rattle.cfs_dir.proofs.Depth.{leads-root}
-use Rattle.cfs_dir.proofs.Grown.{is_child-own, is_child-parts}
+use Rattle.cfs_dir.proofs.Grown.{is_child-parts}
 use Rattle.cfs_dir.proofs.Indexed.{IsUpdated, key_of, IsIndex-placed}
 use Rattle.cfs_dir.proofs.Members.{In, All-In, find-none_of}
 use Rattle.cfs_dir.proofs.Slots.{slot_at, node_at-nodes_of, nodes_of-set_some, AreAtRecords-set_some}

@@ -1,13 +1,13 @@
 -- How the text of a path is read, name by name, and that no other names have this text.
-use Rattle.std.proofs.Common.{◌≡◌, ◌≢◌, ℕ, zero, suc, ◌+◌, ◌≤◌, ◌<◌, List, [], ◌∷◌, ◌++◌, length, take, drop, Bool, true, false, not, cond, ◌||◌, ◌&&◌, inl, inr, refl, sym, ◌∙◌, ap, subst, arith, append_assoc, append-nil, length-append}
-use Rattle.std.specs.Prelude.{Option, Some, None, All, IsTrue, nat_eq, nat_lt, nat_le, unwrap_or, position}
-use Rattle.std.specs.List.{position_or_len, prefix_len}
-use Rattle.std.proofs.lemmas.Bool.{cases_Bool, cond-true, cond-false, eq-eqb, ne_eqb, eqb-true, eqb-false, lt-ltb, le-ltb, ltb-false}
-use Rattle.std.proofs.lemmas.List.Elements.{All-head, All-tail, All-cons, All-nil, All-append, All-push}
+use Rattle.std.proofs.Common.{◌≡◌, ◌≢◌, ℕ, ◌+◌, ◌≤◌, ◌<◌, List, [], ◌∷◌, ◌++◌, length, take, drop, true, false, not, inl, inr, refl, sym, ◌∙◌, ap, subst, arith, append_assoc, append-nil, length-append}
+use Rattle.std.specs.Prelude.{Some, None, All, IsTrue, nat_eq, nat_lt, unwrap_or, position}
+use Rattle.std.specs.List.{position_or_len}
+use Rattle.std.proofs.lemmas.Bool.{cases_Bool, cond-true, cond-false, eqb-true, eqb-false, ltb-false}
+use Rattle.std.proofs.lemmas.List.Elements.{All-head, All-tail, All-nil, All-push}
 use Rattle.std.proofs.lemmas.List.Sums.{prefix_len-le-length}
 use Rattle.std.proofs.Math.Numerals.{one-add}
 use Rattle.cfs_dir.specs.Name.{AreNameBytes, is_name_byte}
-use Rattle.cfs_dir.specs.Path.{ArePathNames, IsPathName, BeginsWithSlash, behind_slashes, is_slash, text_of, IsPathText}
+use Rattle.cfs_dir.specs.Path.{ArePathNames, IsPathName, BeginsWithSlash, behind_slashes, is_slash, IsPathText}
 
 abbrev pub HasNoSlash : List ℕ → Type 0
 HasNoSlash [] = Unit {0}

@@ -1,7 +1,6 @@
 -- A tree without a node in which none stands is a tree.
-use Rattle.std.proofs.Common.{◌≡◌, ◌≢◌, ℕ, zero, suc, ◌+◌, ◌≤◌, ◌<◌, ◌^◌, List, [], ◌∷◌, Bool, true, false, not, cond, inl, inr, refl, sym, ◌∙◌, ap, subst, arith}
-use Rattle.std.specs.Prelude.{Option, Some, None, IsSomeAnd, All, find, filter, nat_eq, nat_lt}
-use Rattle.std.specs.List.{list_any}
+use Rattle.std.proofs.Common.{◌≡◌, ◌≢◌, ℕ, suc, ◌≤◌, ◌<◌, ◌^◌, List, [], ◌∷◌, Bool, true, false, not, inl, inr, sym, ◌∙◌, ap, arith}
+use Rattle.std.specs.Prelude.{Some, IsSomeAnd, nat_eq}
 use Rattle.std.proofs.lemmas.Bool.{cases_Bool, cond-true, cond-false, eq-eqb, ne_eqb, eqb-true, eqb-false, or_parts}
 use Rattle.std.proofs.lemmas.List.Elements.{All-filter}
 use Rattle.cfs_dir.specs.declared.kind.Kind.TheVariants.{Directory, File}

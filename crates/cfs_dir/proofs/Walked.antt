@@ -1,5 +1,5 @@
 -- Where a walk that is not refused ends.
-use Rattle.std.proofs.Common.{◌≡◌, ◌≢◌, ℕ, zero, suc, ◌+◌, ◌-◌, ◌≤◌, ◌<◌, List, [], ◌∷◌, length, Bool, true, false, cond, ◌||◌, inl, inr, refl, sym, ◌∙◌, ap, subst, arith}
+use Rattle.std.proofs.Common.{◌≡◌, ℕ, suc, ◌+◌, ◌-◌, ◌≤◌, List, [], ◌∷◌, length, Bool, true, false, cond, ◌||◌, inl, inr, refl, sym, ◌∙◌, ap, subst, arith}
 use Rattle.std.specs.Prelude.{Option, Some, None, Result, Ok, Err, IsSomeAnd, All, nat_eq, nat_lt}
 use Rattle.std.specs.List.{list_any}
 use Rattle.std.specs.Str.{bytes_eq}
@@ -11,11 +11,10 @@ use Rattle.cfs_cred.specs.declared.want.Want.TheVariants.{Search}
 use Rattle.cfs_dir.specs.declared.kind.Kind.{Kind}
 use Rattle.cfs_dir.specs.declared.kind.Kind.TheVariants.{Directory, File}
 use Rattle.cfs_dir.specs.declared.node.Node.{Node}
-use Rattle.cfs_dir.specs.declared.place.Place.{Place}
-use Rattle.cfs_dir.specs.declared.place.Place.TheVariants.{Root, Entry}
+use Rattle.cfs_dir.specs.declared.place.Place.TheVariants.{Entry}
 use Rattle.cfs_dir.specs.declared.posix.Posix.{Posix}
-use Rattle.cfs_dir.specs.declared.posix.Posix.TheVariants.{InvalidArgument, NameTooLong, NotADirectory, NotFound, PermissionDenied}
-use Rattle.cfs_dir.specs.Name.{IsName, IsNodeName, AreNameBytes, is_dots}
+use Rattle.cfs_dir.specs.declared.posix.Posix.TheVariants.{InvalidArgument, NameTooLong, NotADirectory, PermissionDenied}
+use Rattle.cfs_dir.specs.Name.{IsNodeName, is_dots}
 use Rattle.cfs_dir.specs.Path.{ArePathNames, IsPathName}
 use Rattle.cfs_dir.specs.Namespace.{node_at, node_of, child_of, is_child, is_directory}
 use Rattle.cfs_dir.specs.Tree.{IsTree, IsRoot, leads_to_root}

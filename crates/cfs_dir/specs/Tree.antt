@@ -1,5 +1,5 @@
 -- Which nodes make a tree.
-use Rattle.std.specs.Prelude.{◌≡◌, ◌≢◌, ℕ, zero, suc, ◌+◌, ◌≤◌, ◌<◌, ◌^◌, List, [], ◌∷◌, ◌==◌, Bool, true, false, IsTrue, Option, Some, None, IsSomeAnd, All, if◌then◌else◌}
+use Rattle.std.specs.Prelude.{◌≡◌, ◌≢◌, ℕ, zero, suc, ◌+◌, ◌≤◌, ◌<◌, ◌^◌, List, [], ◌∷◌, ◌==◌, Bool, true, false, IsTrue, Some, None, IsSomeAnd, All, if◌then◌else◌}
 use Rattle.std.specs.Option.{option_map_or}
 use Rattle.cfs_dir.specs.declared.kind.Kind.TheVariants.{Directory}
 use Rattle.cfs_dir.specs.declared.node.Node.{Node}

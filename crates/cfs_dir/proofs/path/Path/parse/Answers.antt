@@ -1,4 +1,4 @@
-use Rattle.std.proofs.Common.{◌≡◌, ◌≢◌, List, ℕ, [], ◌∷◌, ◌++◌, length, sym, ◌∙◌, ap, subst, arith}
+use Rattle.std.proofs.Common.{List, ℕ, length, sym, ap, subst, arith}
 use Rattle.std.specs.Prelude.{nat_eq}
 use Rattle.cfs_dir.proofs.Reading.{IsCut, IsRead, bad-name, too-many, read-next, read-end}
 use Rattle.cfs_dir.proofs.path.Path.parse.Goals as goal
