@@ -49,3 +49,7 @@ with_node namespace node = record { nodes = placed node namespace.nodes; next = 
 -- the namespace after a node is removed; its inode number is not used again
 abbrev pub without_node : Namespace → Node → Namespace
 without_node namespace node = record { nodes = without node.rec namespace.nodes; next = namespace.next }
+
+-- the namespace before this node was made, where it was made last
+abbrev pub without_last : Namespace → Node → Namespace
+without_last namespace node = record { nodes = without node.rec namespace.nodes; next = node.ino }

@@ -46,8 +46,9 @@ pub record IsTree (nodes : List Node) (next : ℕ) : Type 0 where
   pub parents : All (λ node. IsSomeAnd (node_of nodes node.parent) (λ parent. parent.kind ≡ Directory)) nodes
   pub depths : All (λ node. IsTrue (leads_to_root 16 nodes node.ino)) nodes
 
--- a node that may join a tree: its record, its number and its name are free, and the tree with it is one
+-- a node that may join a tree: it has the next inode number, its record and its name are free, and the tree with it is one
 pub record CanJoin (namespace : Namespace) (node : Node) : Type 0 where
+  pub number : node.ino ≡ namespace.next
   pub free : node_at namespace.nodes node.rec ≡ None
   pub unnamed : child_of namespace.nodes node.parent node.name ≡ None
   pub whole : IsTree (placed node namespace.nodes) (namespace.next + 1)
@@ -56,3 +57,8 @@ pub record CanJoin (namespace : Namespace) (node : Node) : Type 0 where
 pub record CanLeave (namespace : Namespace) (node : Node) : Type 0 where
   pub stands : node_at namespace.nodes node.rec ≡ Some node
   pub whole : IsTree (without node.rec namespace.nodes) namespace.next
+
+-- a node that may be taken back, which was made last
+pub record CanBeTakenBack (namespace : Namespace) (node : Node) : Type 0 where
+  pub stands : node_at namespace.nodes node.rec ≡ Some node
+  pub whole : IsTree (without node.rec namespace.nodes) node.ino

@@ -2,7 +2,7 @@ ghost use Rattle.std.specs.Prelude.{◌≡◌, ◌<◌, None};
 ghost use Rattle.std.specs.Option.{ForSome};
 ghost use Rattle.cfs_dir.specs.Namespace.{node_at};
 
-use crate::{Kind, Name, Node, Path, Tree, TreeRefusal};
+use crate::{Kind, Name, Node, Path, Posix, Tree, TreeRefusal};
 use cfs_cred::Credential;
 use std::alloc::{AllocError, Global};
 use std::process::Abort;
@@ -186,6 +186,24 @@ fn last_inode_number(rt: HostRuntime) -> Result<(), Fail> {
     let mut tree = tree_of_last_number(rt.alloc())?;
     run(&rt, rt.alloc(), &mut tree, CALLS_WITHOUT_NUMBER)?;
     assert_eq!(rt; tree.next(), 4_294_967_296);
+    Ok(())
+}
+
+/// A file is made in two halves, and taken back.
+#[test]
+fn file_taken_back(rt: HostRuntime) -> Result<(), Fail> {
+    let mut tree = Tree::with_root(rt.alloc(), 0o755, 10, 10)?;
+    let path = Path::parse(rt.alloc(), b"/a".as_slice())?;
+    let credential = Credential { uid: 10, gid: 10 };
+    let rec = free_record(&tree);
+    let Ok(node) = tree.node_to_make(Kind::File, credential, &path, 0o644, rec) else {
+        return Err("refused")?;
+    };
+    tree.insert(&node)?;
+    assert!(rt; tree.lookup(credential, &path) == Ok(node));
+    tree.take_back(&node);
+    assert!(rt; tree.lookup(credential, &path) == Err(TreeRefusal::Refused(Posix::NotFound)));
+    assert_eq!(rt; tree.next(), 2);
     Ok(())
 }
 

@@ -1,11 +1,11 @@
 ghost use Rattle.std.specs.Prelude.{◌≡◌, ◌<◌, ◌≤◌, [], ◌∷◌, ℕ, IfErr, IfOk, OnOk, OnErr, Some, None, length, option_copied, slice_get};
 ghost use Rattle.std.specs.List.{list_any};
 ghost use Rattle.std.specs.Option.{ForSome, option_and_then};
-ghost use Rattle.cfs_dir.specs.Namespace.{child_of, has_child, node_at, with_node, without_node};
+ghost use Rattle.cfs_dir.specs.Namespace.{child_of, has_child, node_at, with_node, without, without_last, without_node};
 ghost use Rattle.cfs_dir.specs.Step.{IsAnswer, entered, has_right, looked_up, made, place_of, refused, removed_directory, unlinked};
 ghost use Rattle.cfs_dir.specs.Table.{AreListed, IsTableOf, stands_in};
 ghost use Rattle.cfs_dir.specs.Path.{ArePathNames};
-ghost use Rattle.cfs_dir.specs.Tree.{CanJoin, CanLeave, IsTree, root_of};
+ghost use Rattle.cfs_dir.specs.Tree.{CanBeTakenBack, CanJoin, CanLeave, IsTree, root_of};
 
 use crate::child::Child;
 use crate::kind::Kind;
@@ -273,8 +273,9 @@ impl Tree {
         }
     }
 
-    /// The node that is made at a path.
-    fn node_to_make(
+    /// The node that `create` or `mkdir` would make at a path, by what it is; nothing is changed. It
+    /// is `insert` that adds it.
+    pub fn node_to_make(
         &self,
         kind: Kind,
         credential: Credential,
@@ -312,8 +313,8 @@ impl Tree {
         })
     }
 
-    /// The file whose name is removed.
-    fn file_to_unlink(&self, credential: Credential, path: &Path) -> Result<Node, Posix>
+    /// The node that `unlink` would remove; nothing is changed. It is `remove` that removes it.
+    pub fn file_to_unlink(&self, credential: Credential, path: &Path) -> Result<Node, Posix>
         ensures answer { result ≡ unlinked self.now credential path.now }
         ensures leaves { IfOk result (CanLeave self.now) }
     {
@@ -332,8 +333,8 @@ impl Tree {
         Ok(file)
     }
 
-    /// The directory that is removed.
-    fn directory_to_remove(&self, credential: Credential, path: &Path) -> Result<Node, Posix>
+    /// The node that `rmdir` would remove; nothing is changed. It is `remove` that removes it.
+    pub fn directory_to_remove(&self, credential: Credential, path: &Path) -> Result<Node, Posix>
         ensures answer { result ≡ removed_directory self.now credential path.now }
         ensures leaves { IfOk result (CanLeave self.now) }
     {
@@ -362,10 +363,12 @@ impl Tree {
         some_stands_in(&self.slots, parent)
     }
 
-    /// Adds a node, which uses the next inode number up.
-    fn insert(&mut self, node: &Node) -> Result<(), AllocError>
+    /// Adds a node, which uses the next inode number up. Without memory nothing is changed.
+    pub fn insert(&mut self, node: &Node) -> Result<(), AllocError>
         requires { CanJoin self.old node.now }
         ensures added { OnOk result (self.new ≡ with_node self.old node.now) }
+        ensures undoable { OnOk result (CanBeTakenBack self.new node.now) }
+        ensures undone { OnOk result (without_last self.new node.now ≡ self.old) }
         ensures unchanged { OnErr result (self.new ≡ self.old) }
     {
         let child = Child {
@@ -378,10 +381,28 @@ impl Tree {
         Ok(())
     }
 
-    /// Removes a node.
-    fn remove(&mut self, node: &Node)
+    /// Removes a node. It takes no memory.
+    pub fn remove(&mut self, node: &Node)
         requires { CanLeave self.old node.now }
         ensures { self.new ≡ without_node self.old node.now }
+    {
+        let next = self.next;
+        self.take_out(node, next);
+    }
+
+    /// Takes the last `insert` back, which was of this node. It takes no memory.
+    pub fn take_back(&mut self, node: &Node)
+        requires { CanBeTakenBack self.old node.now }
+        ensures { self.new ≡ without_last self.old node.now }
+    {
+        self.take_out(node, node.ino);
+    }
+
+    /// Removes a node, and sets the next inode number.
+    fn take_out(&mut self, node: &Node, next: u64)
+        requires stands { node_at self.old.nodes node.now.rec ≡ Some node.now }
+        requires whole { IsTree (without node.now.rec self.old.nodes) next }
+        ensures { self.new ≡ record { nodes = without node.now.rec self.old.nodes; next = next } }
     {
         let child = Child {
             parent: node.parent,
@@ -389,6 +410,7 @@ impl Tree {
         };
         self.index.swap_remove(&child);
         self.slots[node.rec as usize] = None;
+        self.next = next;
     }
 }
 

@@ -1,5 +1,5 @@
 use Rattle.std.proofs.Common.{arith}
-use Rattle.cfs_dir.proofs.Changed.{joins-within, IsTable-joined, seen-joined}
+use Rattle.cfs_dir.proofs.Changed.{joined-undoable, joined-undone, joins-within, IsTable-joined, seen-joined}
 use Rattle.cfs_dir.proofs.tree.Tree.insert.Goals as goal
 
 pub index_mut-requires : goal.index_mut-requires
@@ -13,4 +13,14 @@ invariant_of-self-2 c =
 pub returns-clause-added : goal.returns-clause-added
 returns-clause-added c =
     seen-joined c.self.inside.slots.items c.self.inside.index c.self.inside.next c.args.self.now c.args.node.now
+    c.self.invariant c.self.view_is c.requires
+
+pub returns-clause-undoable : goal.returns-clause-undoable
+returns-clause-undoable c =
+    joined-undoable c.self.inside.slots.items c.self.inside.index c.self.inside.next c.args.self.now c.args.node.now
+    c.self.invariant c.self.view_is c.requires
+
+pub returns-clause-undone : goal.returns-clause-undone
+returns-clause-undone c =
+    joined-undone c.self.inside.slots.items c.self.inside.index c.self.inside.next c.args.self.now c.args.node.now
     c.self.invariant c.self.view_is c.requires
