@@ -1,0 +1,200 @@
+-- The table after a node has joined or left.
+use Rattle.std.proofs.Common.{◌≡◌, ℕ, ◌+◌, ◌<◌, ◌^◌, List, [], ◌∷◌, false, not, inl, inr, refl, sym, ◌∙◌, ap, subst, arith}
+use Rattle.std.proofs.Math.ListN.{set, length-set}
+use Rattle.std.specs.Prelude.{Option, Some, None, Ok, nat_eq, nat_lt}
+use Rattle.std.specs.Option.{option_map}
+use Rattle.std.proofs.lemmas.Bool.{cases_Bool, cond-true, cond-false, eq-eqb}
+use Rattle.cfs_cred.specs.declared.credential.Credential.{Credential}
+use Rattle.cfs_dir.specs.declared.node.Node.{Node}
+use Rattle.cfs_dir.specs.declared.place.Place.TheVariants.{Entry}
+use Rattle.cfs_dir.specs.Path.{ArePathNames}
+use Rattle.cfs_dir.specs.Namespace.{Namespace, node_at, child_of, has_child, is_directory, placed, without, with_node, without_last}
+use Rattle.cfs_dir.specs.Step.{place_of}
+use Rattle.cfs_dir.specs.Table.{Index, IsTable, nodes_of}
+use Rattle.cfs_dir.specs.Tree.{CanBeTakenBack, CanJoin, CanLeave, IsTree}
+use Rattle.cfs_dir.proofs.Found.{node_at-In}
+use Rattle.cfs_dir.proofs.Grown.{IsNew, IsTree-placed, child_of-new}
+use Rattle.cfs_dir.proofs.Indexed.{IsUpdated, key_of, IsIndex-placed, IsIndex-without}
+use Rattle.cfs_dir.proofs.Members.{In, All-In, find-Some, find-placed_same}
+use Rattle.cfs_dir.proofs.Shrunk.{IsLeaf, file-leaf, no_child, IsTree-without}
+use Rattle.cfs_dir.proofs.Slots.{node_at-nodes_of, nodes_of-set_some, nodes_of-set_none, AreAtRecords-set_some, AreAtRecords-set_none}
+use Rattle.cfs_dir.proofs.Walked.{IsPlace, child-parts, is_directory-false, place_of-Entry}
+
+-- what the fields of a tree are seen as
+abbrev pub seen : List (Option Node) → ℕ → Namespace
+seen slots next = record { nodes = nodes_of slots; next = next }
+
+pub In-placed_own : (node : Node) (nodes : List Node) → In (placed node nodes) node
+In-placed_own node [] = inl refl
+In-placed_own node (first ∷ rest) = elim (cases_Bool (nat_lt first.rec node.rec)) [
+  | inl t ↦ subst (λ zs. In zs node) (sym (cond-true (nat_lt first.rec node.rec) (first ∷ placed node rest) (node ∷ first ∷ rest) t)) (inr (In-placed_own node rest))
+  | inr f ↦ subst (λ zs. In zs node) (sym (cond-false (nat_lt first.rec node.rec) (first ∷ placed node rest) (node ∷ first ∷ rest) f)) (inl refl)
+]
+
+-- the record of a node that joins or leaves is one of the slots'
+pub joins-within : (namespace : Namespace) (node : Node) → CanJoin namespace node → node.rec < 256
+joins-within namespace node joins = All-In (λ n. n.rec < 256) (placed node namespace.nodes) node joins.whole.records (In-placed_own node namespace.nodes)
+
+pub stands-within : (slots : List (Option Node)) (index : Index) (next : ℕ) (namespace : Namespace) (node : Node) → IsTable slots index next
+    → seen slots next ≡ namespace → node_at namespace.nodes node.rec ≡ Some node → node.rec < 256
+stands-within slots index next namespace node table e stands =
+    let at : node_at (nodes_of slots) node.rec ≡ Some node = ap (λ (v : Namespace). node_at v.nodes node.rec) e ∙ stands in
+    All-In (λ n. n.rec < 256) (nodes_of slots) node table.tree.records (find-Some (λ n. nat_eq n.rec node.rec) (nodes_of slots) node at).0
+
+pub nodes_of-joined : (slots : List (Option Node)) (index : Index) (next : ℕ) (node : Node) → IsTable slots index next → CanJoin (seen slots next) node
+    → nodes_of (set slots node.rec (Some node)) ≡ placed node (nodes_of slots)
+nodes_of-joined slots index next node table joins =
+    let within = joins-within (seen slots next) node joins in
+    let size = table.size in
+    nodes_of-set_some 0 slots node.rec node table.at_records (omega arith)
+    (sym (node_at-nodes_of 0 slots node.rec node.rec table.at_records (omega arith)) ∙ joins.free) (omega arith)
+
+pub IsTable-joined : (slots : List (Option Node)) (index new : Index) (next : ℕ) (namespace : Namespace) (node : Node) → IsTable slots index next
+    → seen slots next ≡ namespace → CanJoin namespace node → IsUpdated index new (key_of node) (Some node.rec)
+    → IsTable (set slots node.rec (Some node)) new (next + 1)
+IsTable-joined slots index new next namespace node table e joins' updated =
+    let joins : CanJoin (seen slots next) node = subst (λ v. CanJoin v node) (sym e) joins' in
+    let nodes = nodes_of-joined slots index next node table joins in
+    record {
+      size = length-set slots node.rec (Some node) ∙ table.size;
+      at_records = AreAtRecords-set_some 0 slots node.rec node table.at_records (omega arith);
+      tree = subst (λ ns. IsTree ns (next + 1)) (sym nodes) joins.whole;
+      indexed = λ child. IsIndex-placed (nodes_of slots) node index new joins.unnamed table.indexed updated child
+          ∙ ap (λ ns. option_map (λ (n : Node). n.rec) (child_of ns child.parent child.name)) (sym nodes);
+    }
+
+pub seen-joined : (slots : List (Option Node)) (index : Index) (next : ℕ) (namespace : Namespace) (node : Node) → IsTable slots index next
+    → seen slots next ≡ namespace → CanJoin namespace node → seen (set slots node.rec (Some node)) (next + 1) ≡ with_node namespace node
+seen-joined slots index next namespace node table e joins =
+    ap (λ ns. record { nodes = ns; next = next + 1 }) (nodes_of-joined slots index next node table (subst (λ v. CanJoin v node) (sym e) joins))
+    ∙ ap (λ v. with_node v node) e
+
+pub nodes_of-left : (slots : List (Option Node)) (index : Index) (next : ℕ) (node : Node) → IsTable slots index next
+    → nodes_of (set slots node.rec None) ≡ without node.rec (nodes_of slots)
+nodes_of-left slots index next node table = nodes_of-set_none 0 slots node.rec node.rec table.at_records (omega arith)
+
+pub IsTable-left : (slots : List (Option Node)) (index new : Index) (next after : ℕ) (namespace : Namespace) (node : Node) → IsTable slots index next
+    → seen slots next ≡ namespace → node_at namespace.nodes node.rec ≡ Some node → IsTree (without node.rec namespace.nodes) after
+    → IsUpdated index new (key_of node) None → IsTable (set slots node.rec None) new after
+IsTable-left slots index new next after namespace node table e stands' whole updated =
+    let nodes = nodes_of-left slots index next node table in
+    let at : node_at (nodes_of slots) node.rec ≡ Some node = ap (λ (v : Namespace). node_at v.nodes node.rec) e ∙ stands' in
+    let stands = (find-Some (λ n. nat_eq n.rec node.rec) (nodes_of slots) node at).0 in
+    record {
+      size = length-set slots node.rec None ∙ table.size;
+      at_records = AreAtRecords-set_none 0 slots node.rec table.at_records;
+      tree = subst (λ ns. IsTree ns after) (ap (λ (v : Namespace). without node.rec v.nodes) (sym e) ∙ sym nodes) whole;
+      indexed = λ child. IsIndex-without (nodes_of slots) next node index new table.tree stands table.indexed updated child
+          ∙ ap (λ ns. option_map (λ (n : Node). n.rec) (child_of ns child.parent child.name)) (sym nodes);
+    }
+
+pub seen-left : (slots : List (Option Node)) (index : Index) (next after : ℕ) (namespace : Namespace) (node : Node) → IsTable slots index next
+    → seen slots next ≡ namespace → seen (set slots node.rec None) after ≡ record { nodes = without node.rec namespace.nodes; next = after }
+seen-left slots index next after namespace node table e =
+    ap (λ ns. record { nodes = ns; next = after }) (nodes_of-left slots index next node table ∙ ap (λ (v : Namespace). without node.rec v.nodes) e)
+
+-- a node that has joined can be taken back, which gives the tree before
+pub without-absent : (nodes : List Node) (rec : ℕ) → node_at nodes rec ≡ None → without rec nodes ≡ nodes
+without-absent [] rec free = refl
+without-absent (first ∷ rest) rec free = elim (cases_Bool (nat_eq first.rec rec)) [
+  | inl t ↦ absurd (let hit = cond-true (nat_eq first.rec rec) (Some first) (node_at rest rec) t in cc)
+  | inr f ↦
+      cond-true (not (nat_eq first.rec rec)) (first ∷ without rec rest) (without rec rest) (ap not f)
+      ∙ ap (λ ns. first ∷ ns) (without-absent rest rec (sym (cond-false (nat_eq first.rec rec) (Some first) (node_at rest rec) f) ∙ free))
+]
+
+pub without-placed : (nodes : List Node) (node : Node) → node_at nodes node.rec ≡ None → without node.rec (placed node nodes) ≡ nodes
+without-placed [] node free = cond-false (not (nat_eq node.rec node.rec)) (node ∷ []) [] (ap not (eq-eqb node.rec node.rec refl))
+without-placed (first ∷ rest) node free = elim (cases_Bool (nat_eq first.rec node.rec)) [
+  | inl t ↦ absurd (let hit = cond-true (nat_eq first.rec node.rec) (Some first) (node_at rest node.rec) t in cc)
+  | inr f ↦ elim (cases_Bool (nat_lt first.rec node.rec)) [
+    | inl t ↦
+        ap (λ ns. without node.rec ns) (cond-true (nat_lt first.rec node.rec) (first ∷ placed node rest) (node ∷ first ∷ rest) t)
+        ∙ cond-true (not (nat_eq first.rec node.rec)) (first ∷ without node.rec (placed node rest)) (without node.rec (placed node rest)) (ap not f)
+        ∙ ap (λ ns. first ∷ ns) (without-placed rest node (sym (cond-false (nat_eq first.rec node.rec) (Some first) (node_at rest node.rec) f) ∙ free))
+    | inr g ↦
+        ap (λ ns. without node.rec ns) (cond-false (nat_lt first.rec node.rec) (first ∷ placed node rest) (node ∷ first ∷ rest) g)
+        ∙ cond-false (not (nat_eq node.rec node.rec)) (node ∷ without node.rec (first ∷ rest)) (without node.rec (first ∷ rest)) (ap not (eq-eqb node.rec node.rec refl))
+        ∙ without-absent (first ∷ rest) node.rec free
+  ]
+]
+
+pub without_last-joined : (namespace : Namespace) (node : Node) → CanJoin namespace node → without_last (with_node namespace node) node ≡ namespace
+without_last-joined namespace node joins =
+    ap (λ ns. record { nodes = ns; next = node.ino }) (without-placed namespace.nodes node joins.free)
+    ∙ ap (λ n. record { nodes = namespace.nodes; next = n }) joins.number
+
+pub CanBeTakenBack-joined : (namespace : Namespace) (node : Node) → IsTree namespace.nodes namespace.next → CanJoin namespace node
+    → CanBeTakenBack (with_node namespace node) node
+CanBeTakenBack-joined namespace node tree joins = record {
+  stands = find-placed_same (λ n. nat_eq n.rec node.rec) node namespace.nodes (eq-eqb node.rec node.rec refl) joins.free;
+  whole = subst (λ (v : Namespace). IsTree v.nodes v.next) (sym (without_last-joined namespace node joins)) tree;
+}
+
+-- the same, for the fields of a tree
+pub joined-undone : (slots : List (Option Node)) (index : Index) (next : ℕ) (namespace : Namespace) (node : Node) → IsTable slots index next
+    → seen slots next ≡ namespace → CanJoin namespace node → without_last (seen (set slots node.rec (Some node)) (next + 1)) node ≡ namespace
+joined-undone slots index next namespace node table e joins =
+    ap (λ v. without_last v node) (seen-joined slots index next namespace node table e joins) ∙ without_last-joined namespace node joins
+
+pub joined-undoable : (slots : List (Option Node)) (index : Index) (next : ℕ) (namespace : Namespace) (node : Node) → IsTable slots index next
+    → seen slots next ≡ namespace → CanJoin namespace node → CanBeTakenBack (seen (set slots node.rec (Some node)) (next + 1)) node
+joined-undoable slots index next namespace node table e joins =
+    let tree : IsTree namespace.nodes namespace.next = subst (λ (v : Namespace). IsTree v.nodes v.next) e table.tree in
+    subst (λ v. CanBeTakenBack v node) (sym (seen-joined slots index next namespace node table e joins)) (CanBeTakenBack-joined namespace node tree joins)
+
+-- a leaf of the tree may leave it
+pub CanLeave-leaf : (namespace : Namespace) (node : Node) → IsTree namespace.nodes namespace.next → IsLeaf namespace.nodes node → CanLeave namespace node
+CanLeave-leaf namespace node tree leaf = record {
+  stands = node_at-In 0 namespace.nodes node tree.ascending leaf.stands;
+  whole = IsTree-without namespace.nodes namespace.next node tree leaf;
+}
+
+pub place-stands : (namespace : Namespace) (credential : Credential) (path : List (List ℕ)) (directory : Node) (name : List ℕ) (node : Node)
+    → IsTree namespace.nodes namespace.next → ArePathNames path → place_of namespace.nodes credential path ≡ Ok (Entry directory name (Some node))
+    → In namespace.nodes node
+place-stands namespace credential path directory name node tree names e =
+    let place = place_of-Entry namespace.nodes namespace.next credential path directory name (Some node) tree names e in
+    (child-parts namespace.nodes directory.ino name node (sym place.found_is)).0
+
+pub CanLeave-file : (namespace : Namespace) (credential : Credential) (path : List (List ℕ)) (directory : Node) (name : List ℕ) (file : Node)
+    → IsTree namespace.nodes namespace.next → ArePathNames path → place_of namespace.nodes credential path ≡ Ok (Entry directory name (Some file))
+    → is_directory file.kind ≡ false → CanLeave namespace file
+CanLeave-file namespace credential path directory name file tree names e kind =
+    CanLeave-leaf namespace file tree (file-leaf namespace.nodes namespace.next file tree
+    (place-stands namespace credential path directory name file tree names e) (is_directory-false file.kind kind))
+
+pub CanLeave-empty : (namespace : Namespace) (credential : Credential) (path : List (List ℕ)) (directory : Node) (name : List ℕ) (node : Node)
+    → IsTree namespace.nodes namespace.next → ArePathNames path → place_of namespace.nodes credential path ≡ Ok (Entry directory name (Some node))
+    → has_child namespace.nodes node.ino ≡ false → CanLeave namespace node
+CanLeave-empty namespace credential path directory name node tree names e empty =
+    CanLeave-leaf namespace node tree (record {
+      stands = place-stands namespace credential path directory name node tree names e;
+      leaf = no_child namespace.nodes node.ino empty;
+    })
+
+-- the node that a call makes may join the tree
+pub CanJoin-new : (namespace : Namespace) (credential : Credential) (path : List (List ℕ)) (directory : Node) (name : List ℕ) (node : Node)
+    → IsTree namespace.nodes namespace.next → ArePathNames path → place_of namespace.nodes credential path ≡ Ok (Entry directory name None)
+    → node.ino ≡ namespace.next → namespace.next < 2 ^ 32 → node.parent ≡ directory.ino → node.name ≡ name
+    → node.mode < 512 → node.uid < 2 ^ 32 → node.gid < 2 ^ 32 → node.rec < 256 → node_at namespace.nodes node.rec ≡ None
+    → CanJoin namespace node
+CanJoin-new namespace credential path directory name node tree names e ino room parent named mode uid gid rec free =
+    let place = place_of-Entry namespace.nodes namespace.next credential path directory name None tree names e in
+    let new : IsNew namespace.nodes namespace.next directory node = record {
+      place = subst (λ n. IsPlace namespace.nodes 15 directory n None) (sym named) place;
+      ino = ino;
+      room = room;
+      parent = parent;
+      mode = omega arith;
+      uid = uid;
+      gid = gid;
+      rec = rec;
+      free = free;
+    } in
+    record {
+      number = ino;
+      free = free;
+      unnamed = child_of-new namespace.nodes namespace.next directory node new;
+      whole = IsTree-placed namespace.nodes namespace.next directory node tree new;
+    }

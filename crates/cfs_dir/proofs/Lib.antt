@@ -1,0 +1,11 @@
+pub mod Changed
+pub mod Depth
+pub mod Found
+pub mod Grown
+pub mod Indexed
+pub mod Listed
+pub mod Members
+pub mod Reading
+pub mod Shrunk
+pub mod Slots
+pub mod Walked

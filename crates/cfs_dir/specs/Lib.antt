@@ -1,0 +1,7 @@
+pub mod Name
+pub mod Namespace
+pub mod Padding
+pub mod Path
+pub mod Step
+pub mod Table
+pub mod Tree

@@ -1,0 +1,290 @@
+ghost use Rattle.std.specs.Prelude.{◌≡◌, ◌<◌, None};
+ghost use Rattle.std.specs.Option.{ForSome};
+ghost use Rattle.cfs_dir.specs.Namespace.{node_at};
+
+use crate::{Kind, Name, Node, Path, Posix, Tree, TreeRefusal};
+use cfs_cred::Credential;
+use std::alloc::{AllocError, Global};
+use std::process::Abort;
+use std::test::Fail;
+
+/// Calls in order on a tree whose root is open to all. A line has a user, whose group has the same
+/// number, a call, its mode, its path, and the inode number or the refusal that it answers.
+const CALLS: &str = "\
+10 mkdir 755 /d 2
+10 mkdir 755 /d EEXIST
+10 create 644 /d/f 3
+10 create 644 /d/f EEXIST
+10 create 644 /d EEXIST
+10 lookup 0 /d 2
+10 lookup 0 /d/f 3
+10 lookup 0 /none ENOENT
+10 lookup 0 /none/f ENOENT
+10 lookup 0 /d/f/g ENOTDIR
+10 lookup 0 /./f EINVAL
+10 lookup 0 /d/.. EINVAL
+10 rmdir 0 /d ENOTEMPTY
+10 rmdir 0 /d/f ENOTDIR
+10 rmdir 0 /none ENOENT
+10 unlink 0 /d EISDIR
+10 unlink 0 /none ENOENT
+20 create 644 /d/g EACCES
+20 create 644 /d/f EEXIST
+20 unlink 0 /d/f EACCES
+20 unlink 0 /d/none ENOENT
+10 mkdir 700 /p 4
+10 create 644 /p/f 5
+20 lookup 0 /p 4
+20 lookup 0 /p/f EACCES
+20 lookup 0 /p/none EACCES
+20 lookup 0 /p/f/g EACCES
+0 lookup 0 /p/f 5
+10 mkdir 007 /s 6
+10 lookup 0 /s/f EACCES
+20 lookup 0 /s/f ENOENT
+20 create 644 /s/f 7
+0 lookup 0 / 1
+0 create 644 / EEXIST
+0 mkdir 755 / EEXIST
+0 unlink 0 / EISDIR
+0 rmdir 0 / EINVAL
+0 lookup 0 /aaaaaaaaaaaaaaaaaaaaaaaaaaaaaaaaaaaaaaaa ENOENT
+0 lookup 0 /aaaaaaaaaaaaaaaaaaaaaaaaaaaaaaaaaaaaaaaaa ENAMETOOLONG
+0 lookup 0 /./aaaaaaaaaaaaaaaaaaaaaaaaaaaaaaaaaaaaaaaaa EINVAL
+0 lookup 0 /a/b/c/d/e/f/g/h/i/j/k/l/m/n/o/p ENOENT
+0 lookup 0 /a/b/c/d/e/f/g/h/i/j/k/l/m/n/o/p/q ENAMETOOLONG
+10 unlink 0 /d/f 3
+10 create 644 /d/f 8
+10 unlink 0 /d/f 8
+10 rmdir 0 /d 2
+10 lookup 0 /d ENOENT
+";
+
+/// Calls on a tree of user 10 that has 255 directories under its root.
+const CALLS_WITHOUT_RECORD: &str = "\
+10 mkdir 755 /more ENFILE
+10 create 644 /more ENFILE
+10 create 644 /n7 EEXIST
+20 create 644 /more EACCES
+10 create 644 /none/f ENOENT
+10 rmdir 0 /n7 9
+10 create 644 /n7 257
+10 create 644 /more ENFILE
+";
+
+/// Calls on a tree of user 10 that has one inode number left.
+const CALLS_WITHOUT_NUMBER: &str = "\
+10 create 644 /a 4294967295
+10 create 644 /b ENFILE
+10 unlink 0 /a 4294967295
+10 mkdir 755 /a ENFILE
+";
+
+/// The lowest record without a node.
+fn free_record(tree: &Tree) -> Option<u32>
+    ensures { ForSome result (λ rec. (rec < 256) × (node_at tree.now.nodes rec ≡ None)) }
+{
+    for rec in 0..256 {
+        if tree.node(rec).is_none() {
+            return Some(rec);
+        }
+    }
+    None
+}
+
+/// Makes a call, by its name.
+fn call(
+    tree: &mut Tree,
+    credential: Credential,
+    name: &str,
+    mode: u16,
+    path: &Path,
+) -> Result<Node, TreeRefusal> {
+    let rec = free_record(tree);
+    let mode = mode.min(0o777);
+    match name {
+        "lookup" => tree.lookup(credential, path),
+        "create" => tree.create(credential, path, mode, rec),
+        "mkdir" => tree.mkdir(credential, path, mode, rec),
+        "unlink" => tree.unlink(credential, path),
+        _ => tree.rmdir(credential, path),
+    }
+}
+
+/// Makes the call of a line, and compares its answer.
+fn run_line(rt: &impl Abort, alloc: Global, tree: &mut Tree, line: &str) -> Result<(), Fail> {
+    let mut words = line.split_whitespace();
+    let user = words.next().ok_or("user")?.parse::<u32>()?;
+    let name = words.next().ok_or("call")?;
+    let mode = u16::from_str_radix(words.next().ok_or("mode")?, 8)?;
+    let path = Path::parse(alloc, words.next().ok_or("path")?.as_bytes())?;
+    let want = words.next().ok_or("answer")?;
+    let credential = Credential {
+        uid: user,
+        gid: user,
+    };
+    let given = match call(tree, credential, name, mode, &path) {
+        Ok(node) => format!(in alloc; "{}", node.ino)?,
+        Err(refusal) => format!(in alloc; "{refusal}")?,
+    };
+    assert_eq!(rt; given.as_str(), want, "{line}");
+    Ok(())
+}
+
+fn run(rt: &impl Abort, alloc: Global, tree: &mut Tree, calls: &str) -> Result<(), Fail> {
+    for line in calls.lines() {
+        run_line(rt, alloc, tree, line)?;
+    }
+    Ok(())
+}
+
+#[test]
+fn calls_in_order(rt: HostRuntime) -> Result<(), Fail> {
+    let mut tree = Tree::with_root(rt.alloc(), 0o777, 0, 0)?;
+    run(&rt, rt.alloc(), &mut tree, CALLS)?;
+    assert_eq!(rt; tree.next(), 9);
+    Ok(())
+}
+
+#[test]
+fn full_table(rt: HostRuntime) -> Result<(), Fail> {
+    let mut tree = Tree::with_root(rt.alloc(), 0o755, 10, 10)?;
+    for number in 0..255 {
+        let line = format!(in rt.alloc(); "10 mkdir 755 /n{number} {}", number + 2)?;
+        run_line(&rt, rt.alloc(), &mut tree, line.as_str())?;
+    }
+    run(&rt, rt.alloc(), &mut tree, CALLS_WITHOUT_RECORD)?;
+    let node = tree.node(8).ok_or("no node")?;
+    assert_eq!(rt; (node.ino, node.parent, node.kind), (257, 1, Kind::File));
+    assert_eq!(rt;
+        (node.mode, node.uid, node.gid, node.rec),
+        (0o644, 10, 10, 8)
+    );
+    assert_eq!(rt; node.name.as_bytes(), b"n7".as_slice());
+    assert!(rt; tree.node(256).is_none());
+    Ok(())
+}
+
+/// The tree of a root that has given out all inode numbers but the last.
+fn tree_of_last_number(alloc: Global) -> Result<Tree, AllocError> {
+    let root = Node {
+        ino: 1,
+        parent: 1,
+        name: Name::empty(),
+        kind: Kind::Directory,
+        mode: 0o755,
+        uid: 10,
+        gid: 10,
+        rec: 0,
+    };
+    let nodes = vec![in alloc; root]?;
+    Ok(Tree::new(alloc, nodes, 4_294_967_295)?)
+}
+
+#[test]
+fn last_inode_number(rt: HostRuntime) -> Result<(), Fail> {
+    let mut tree = tree_of_last_number(rt.alloc())?;
+    run(&rt, rt.alloc(), &mut tree, CALLS_WITHOUT_NUMBER)?;
+    assert_eq!(rt; tree.next(), 4_294_967_296);
+    Ok(())
+}
+
+/// A file is made in two halves, and taken back.
+#[test]
+fn file_taken_back(rt: HostRuntime) -> Result<(), Fail> {
+    let mut tree = Tree::with_root(rt.alloc(), 0o755, 10, 10)?;
+    let path = Path::parse(rt.alloc(), b"/a".as_slice())?;
+    let credential = Credential { uid: 10, gid: 10 };
+    let rec = free_record(&tree);
+    let Ok(node) = tree.node_to_make(Kind::File, credential, &path, 0o644, rec) else {
+        return Err("refused")?;
+    };
+    tree.insert(&node)?;
+    assert!(rt; tree.lookup(credential, &path) == Ok(node));
+    tree.take_back(&node);
+    assert!(rt; tree.lookup(credential, &path) == Err(TreeRefusal::Refused(Posix::NotFound)));
+    assert_eq!(rt; tree.next(), 2);
+    Ok(())
+}
+
+/// Texts of paths, a line each.
+const PATHS: &str = "\
+/
+/a
+/a/b.c/d_e/f-g/0
+/./..
+/a/b/c/d/e/f/g/h/i/j/k/l/m/n/o/p/q
+/aaaaaaaaaaaaaaaaaaaaaaaaaaaaaaaaaaaaaaaaa
+";
+
+/// Texts that are no paths, a line each; the first is empty.
+const NO_PATHS: &str = "\
+
+a
+a/b
+//
+/a/
+/a//b
+/a b
+/a\u{e9}
+";
+
+fn is_path(alloc: Global, text: &str) -> bool {
+    Path::parse(alloc, text.as_bytes()).is_ok()
+}
+
+/// A text, so many times in a row.
+fn repeated(alloc: Global, text: &str, times: u32) -> Result<String, AllocError> {
+    let mut all = String::new(alloc);
+    for _ in 0..times {
+        all.push_str(text)?;
+    }
+    Ok(all)
+}
+
+#[test]
+fn texts_of_paths(rt: HostRuntime) -> Result<(), Fail> {
+    for text in PATHS.lines() {
+        assert!(rt; is_path(rt.alloc(), text), "{text}");
+    }
+    for text in NO_PATHS.lines() {
+        assert!(rt; !is_path(rt.alloc(), text), "{text}");
+    }
+    let most = repeated(rt.alloc(), "/a", 64)?;
+    assert!(rt; is_path(rt.alloc(), most.as_str()));
+    let too_many = repeated(rt.alloc(), "/a", 65)?;
+    assert!(rt; !is_path(rt.alloc(), too_many.as_str()));
+    let name = repeated(rt.alloc(), "a", 200)?;
+    let longest = format!(in rt.alloc(); "/{name}")?;
+    assert!(rt; is_path(rt.alloc(), longest.as_str()));
+    let too_long = format!(in rt.alloc(); "/{name}a")?;
+    assert!(rt; !is_path(rt.alloc(), too_long.as_str()));
+    Ok(())
+}
+
+/// Names of nodes, a line each.
+const NAMES: &str = "\
+a
+Zz09._-
+aaaaaaaaaaaaaaaaaaaaaaaaaaaaaaaaaaaaaaaa
+";
+
+/// Texts that are no names of nodes, a line each; the first is empty.
+const NO_NAMES: &str = "\
+
+aaaaaaaaaaaaaaaaaaaaaaaaaaaaaaaaaaaaaaaaa
+a/b
+a b
+";
+
+#[test]
+fn names_of_nodes(rt: HostRuntime) -> Result<(), Fail> {
+    for text in NAMES.lines() {
+        let name = Name::parse(text.as_bytes()).ok_or("no name")?;
+        assert!(rt; name.as_bytes() == text.as_bytes(), "{text}");
+    }
+    for text in NO_NAMES.lines() {
+        assert!(rt; Name::parse(text.as_bytes()).is_none(), "{text}");
+    }
+    Ok(())
+}
