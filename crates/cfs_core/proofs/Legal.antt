@@ -1,0 +1,111 @@
+-- The log of a run stays legal until a mount.
+use Rattle.std.proofs.Common.{◌≡◌, ◌⊎◌, inl, inr, ℕ, ◌+◌, ◌≤◌, ◌==◌, Bool, true, false, ◌&&◌, Some, None, List, [], ◌∷◌, ◌++◌, length, take, arith, refl, sym, length-append, nat_le, ◌||◌}
+use Rattle.std.specs.List.{list_any}
+use Rattle.std.proofs.lemmas.List.{take_all}
+use Rattle.std.proofs.lemmas.Bool.{cases_lt}
+use Rattle.std.proofs.lemmas.Bool.Decides.{nat_tests}
+use Rattle.cfs_file.specs.declared.entry.Entry.{Entry}
+use Rattle.cfs_file.specs.declared.request.Request.{Request}
+use Rattle.cfs_file.specs.declared.request.Request.TheVariants as requests
+use Rattle.cfs_file.specs.File.{IsFile, effect}
+use Rattle.cfs_file.specs.Log.{IsLegal, file_of}
+use Rattle.cfs_file.proofs.Logs.{file_of-append, slice_get-snoc, take-snoc_within}
+use Rattle.cfs_core.specs.declared.event.Event.{Event}
+use Rattle.cfs_core.specs.declared.event.Event.TheVariants as events
+use Rattle.cfs_core.specs.declared.event.End.TheVariants as ends
+use Rattle.cfs_core.specs.declared.event.SizeEnd.TheVariants as sizes
+use Rattle.cfs_core.specs.declared.inode_core.Core.{Core}
+use Rattle.cfs_core.specs.May.{case, is_in_phase, is_query, may, may_admit}
+use Rattle.cfs_core.specs.After.{after}
+use Rattle.cfs_core.specs.Run.{IsRun, after_all, is_mount}
+
+-- both tests hold
+pub both : (a b : Bool) → (a && b) ≡ true → (a ≡ true) × (b ≡ true)
+both true b h = (refl, h)
+both false b h = cc
+
+pub neither : (a b : Bool) → (a || b) ≡ false → (a ≡ false) × (b ≡ false)
+neither true b h = cc
+neither false b h = (refl, h)
+
+-- the next entry, whose file is short enough
+pub IsLegal-next : (base : List ℕ) (log : List Entry) (entry : Entry) → IsLegal base log [] →
+    entry.place ≡ length log + 1 → IsFile (effect (file_of base log) entry.request) → IsLegal base (log ++ entry ∷ []) []
+IsLegal-next base log entry legal next file =
+    let whole : file_of base (log ++ entry ∷ []) ≡ effect (file_of base log) entry.request = file_of-append base log (entry ∷ []) in
+    record {
+      places = λ k e is. elim (slice_get-snoc log entry k e is) [
+        | inl within ↦ legal.places k e within.1
+        | inr at_end ↦ rw (at_end.1, at_end.0) next
+      ];
+      files = λ k within. elim (cases_lt k (length log + 1)) [
+        | inl inside ↦ rw (take-snoc_within log entry k (omega arith)) (legal.files k (omega arith))
+        | inr outside ↦
+            let all : take k (log ++ entry ∷ []) ≡ log ++ entry ∷ [] =
+            take_all k (log ++ entry ∷ []) (omega (arith, length-append log (entry ∷ []))) in
+            rw (all, whole) file
+      ];
+      answers = λ k e reply is given. cc;
+    }
+
+file_now : (base : List ℕ) (log : List Entry) → IsLegal base log [] → IsFile (file_of base log)
+file_now base log legal =
+    let all : take (length log) log ≡ log = take_all (length log) log (omega arith) in
+    rw all at (legal.files (length log) (omega arith))
+
+query_file : (file : List ℕ) (request : Request) → is_query request ≡ true → IsFile file → IsFile (effect file request)
+query_file file (requests.Write offset bytes) h is = cc
+query_file file (requests.Append bytes) h is = cc
+query_file file (requests.Truncate n) h is = cc
+query_file file (requests.Read offset count) h is = is
+query_file file requests.Sync h is = is
+
+place_is : (place n : ℕ) → (place == n) ≡ true → place ≡ n
+place_is place n h = grind (arith, nat_tests)
+
+at_most : (a b : ℕ) → nat_le a b ≡ true → a ≤ b
+at_most a b h = grind (arith, nat_tests)
+
+abbrev IsOrderly : Core → Type 0
+IsOrderly core = IsLegal core.base core.log []
+
+admit : (core : Core) (entry : Entry) (grant : ℕ) (kept : Bool) → IsOrderly core → may_admit core entry ≡ true → IsOrderly (after core (events.Admit entry grant kept))
+admit core entry grant false legal may_be = legal
+admit core entry grant true legal may_be =
+    let rest = both _ _ may_be in
+    let next = both _ _ rest.1 in
+    let change = both _ _ next.1 in
+    let fits = both _ _ change.1 in
+    IsLegal-next core.base core.log entry legal (place_is _ _ next.0) (at_most _ _ fits.0)
+
+pub legal-after : (core : Core) (event : Event) → IsOrderly core → case core event ≡ true → is_mount event ≡ false → IsOrderly (after core event)
+legal-after core (events.Tag block kept) legal may_be calm = legal
+legal-after core (events.Admit entry grant kept) legal may_be calm = admit core entry grant kept legal may_be
+legal-after core (events.AdmitRead entry) legal may_be calm =
+    let rest = both _ _ may_be in
+    IsLegal-next core.base core.log entry legal (place_is _ _ rest.0)
+    (query_file _ entry.request rest.1 (file_now core.base core.log legal))
+legal-after core (events.Serve place answer) legal may_be calm = legal
+legal-after core (events.Mark place by kept) legal may_be calm = legal
+legal-after core (events.Dispatch place) legal may_be calm = legal
+legal-after core (events.BlockWrite place block None) legal may_be calm = legal
+legal-after core (events.BlockWrite place block (Some left)) legal may_be calm = legal
+legal-after core (events.Flush place block true) legal may_be calm = legal
+legal-after core (events.Flush place block false) legal may_be calm = legal
+legal-after core (events.Finish place ends.Retired) legal may_be calm = legal
+legal-after core (events.Finish place ends.More) legal may_be calm = legal
+legal-after core (events.Finish place (ends.Back sizes.AsBefore gate applied)) legal may_be calm = legal
+legal-after core (events.Finish place (ends.Back sizes.Set gate applied)) legal may_be calm = legal
+legal-after core (events.Finish place (ends.Back sizes.Either gate applied)) legal may_be calm = legal
+legal-after core (events.Skip place) legal may_be calm = legal
+legal-after core (events.Trim block kept) legal may_be calm = legal
+legal-after core events.Settle legal may_be calm = legal
+legal-after core (events.Crash image) legal may_be calm = legal
+legal-after core events.Mount legal may_be calm = cc
+
+pub legal-run : (core : Core) (list : List Event) → IsOrderly core → IsRun core list → list_any is_mount list ≡ false → IsOrderly (after_all core list)
+legal-run core [] legal run calm = legal
+legal-run core (event ∷ list) legal run calm =
+    let first = neither _ _ calm in
+    let allowed = both (is_in_phase core.crashed event) (case core event) run.0 in
+    legal-run (after core event) list (legal-after core event legal allowed.1 first.0) run.1 first.1
