@@ -1,0 +1,68 @@
+//! A workload to time: it stages, opens and closes as many requests of 4096 bytes as its argument
+//! says, one after another on one slot in memory, and prints how many it was.
+#![tactic(auto)]
+
+ghost use Rattle.std.specs.Prelude.{◌<◌};
+ghost use Rattle.cfs_slot.specs.Staging.{IsStageable};
+
+use anyhow::{Context, anyhow};
+use cfs_file::{Bytes, Request};
+use cfs_pmem::{DeviceFault, MemRegion, Meter};
+use cfs_slot::Slot;
+use std::alloc::{AllocError, Global};
+use std::env;
+
+/// The first slot's device number.
+const FIRST_SLOT: u32 = 323;
+
+fn main(rt: HostRuntime) -> anyhow::Result<()> {
+    let alloc = rt.alloc();
+    let word = env::args(&rt)?
+        .nth(1)
+        .context("the number of requests is missing")?;
+    let count = word.parse::<u64>().context("the number of requests")?;
+    run(alloc, count)?;
+    println!(rt; "{count} requests")?;
+    Ok(())
+}
+
+fn run(alloc: Global, count: u64) -> anyhow::Result<()> {
+    let payload = vec![in alloc; b'x'; 4096]?;
+    let request = Request::Write {
+        offset: 0,
+        bytes: Bytes::from_vec(payload),
+    };
+    let mut meter = Meter::calm(alloc);
+    let mut slot = empty_slot(alloc)?;
+    for place in 1..=count {
+        slot = admit(slot, &mut meter, &request, place).map_err(|_| anyhow!("a device fault"))?;
+    }
+    Ok(())
+}
+
+fn empty_slot(alloc: Global) -> Result<Slot<MemRegion>, AllocError> {
+    let region = MemRegion::new(alloc, FIRST_SLOT, vec![in alloc; 0; 518]?)?;
+    Ok(Slot::new(region))
+}
+
+/// One request's way through a slot: staged, its gate opened and closed.
+fn admit(
+    slot: Slot<MemRegion>,
+    meter: &mut Meter,
+    request: &Request,
+    place: u64,
+) -> Result<Slot<MemRegion>, DeviceFault>
+    requires stageable { IsStageable request.now }
+    requires place { 0 < place }
+{
+    let Ok(staged) = slot.stage(meter, 2, request, 1) else {
+        return Err(DeviceFault);
+    };
+    let Ok(live) = staged.open_gate(meter, place) else {
+        return Err(DeviceFault);
+    };
+    match live.close_gate(meter) {
+        Ok(slot) => Ok(slot),
+        Err(_) => Err(DeviceFault),
+    }
+}
