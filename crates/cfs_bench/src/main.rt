@@ -8,7 +8,7 @@ ghost use Rattle.cfs_slot.specs.Staging.{IsStageable};
 use anyhow::{Context, anyhow};
 use cfs_file::{Bytes, Request};
 use cfs_pmem::{DeviceFault, MemRegion, Meter};
-use cfs_slot::Slot;
+use cfs_slot::{Slot, is_stageable};
 use std::alloc::{AllocError, Global};
 use std::env;
 
@@ -21,28 +21,38 @@ fn main(rt: HostRuntime) -> anyhow::Result<()> {
         .nth(1)
         .context("the number of requests is missing")?;
     let count = word.parse::<u64>().context("the number of requests")?;
-    run(alloc, count)?;
-    println!(rt; "{count} requests")?;
-    Ok(())
-}
-
-fn run(alloc: Global, count: u64) -> anyhow::Result<()> {
     let payload = vec![in alloc; b'x'; 4096]?;
     let request = Request::Write {
         offset: 0,
         bytes: Bytes::from_vec(payload),
     };
-    let mut meter = Meter::calm(alloc);
-    let mut slot = empty_slot(alloc)?;
-    for place in 1..=count {
-        slot = admit(slot, &mut meter, &request, place).map_err(|_| anyhow!("a device fault"))?;
+    if !is_stageable(&request) {
+        return Err(anyhow!("no slot holds such a request"));
     }
+    admit_all(empty_slot(alloc)?, alloc, &request, count).map_err(|_| anyhow!("a device fault"))?;
+    println!(rt; "{count} requests")?;
     Ok(())
 }
 
 fn empty_slot(alloc: Global) -> Result<Slot<MemRegion>, AllocError> {
     let region = MemRegion::new(alloc, FIRST_SLOT, vec![in alloc; 0; 518]?)?;
     Ok(Slot::new(region))
+}
+
+/// The same request, so many times.
+fn admit_all(
+    mut slot: Slot<MemRegion>,
+    alloc: Global,
+    request: &Request,
+    count: u64,
+) -> Result<(), DeviceFault>
+    requires { IsStageable request.now }
+{
+    let mut meter = Meter::calm(alloc);
+    for place in 1..=count {
+        slot = admit(slot, &mut meter, request, place)?;
+    }
+    Ok(())
 }
 
 /// One request's way through a slot: staged, its gate opened and closed.
