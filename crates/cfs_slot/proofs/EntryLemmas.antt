@@ -1,9 +1,8 @@
 -- The entry that words stand for, where one of them was set.
-use Rattle.std.proofs.Common.{ℕ, ◌+◌, ◌/◌, ◌%◌, ◌==◌, ◌&&◌, Bool, true, false, not, ◌<◌, ◌≡◌, ◌≢◌, ◌∙◌, List, [], ◌∷◌, Option, Some, None, length, take, drop, get_or, if◌then◌else◌, refl, sym, ap, arith, eq-eqb, get_or-set_same, get_or-set_other}
+use Rattle.std.proofs.Common.{ℕ, ◌+◌, ◌/◌, ◌%◌, ◌==◌, ◌&&◌, Bool, true, false, not, ◌<◌, ◌≡◌, ◌∙◌, List, [], ◌∷◌, Some, None, length, take, drop, get_or, if◌then◌else◌, refl, sym, ap, arith, eq-eqb, get_or-set_same, get_or-set_other}
 use Rattle.std.proofs.Math.ListN.{set}
 use Rattle.std.proofs.lemmas.Bool.{ne_eqb}
 use Rattle.std.proofs.lemmas.List.{drop-drop, drop-set-lt, get_or-drop}
-use Rattle.cfs_file.specs.declared.request.Request.{Request}
 use Rattle.cfs_file.specs.declared.request.Request.TheVariants.{Write, Truncate}
 use Rattle.cfs_slot.specs.Words.{gate_of, mark_of, ino_of, offset_of, kind_of, count_of, bytes_of, payload_of, request_of, with_offset, is_live, live_entry}
 

@@ -1,8 +1,8 @@
 -- What a slot keeps in each image where a word was set, or may have been.
-use Rattle.std.proofs.Common.{ℕ, ◌<◌, ◌≤◌, ◌≡◌, ◌≢◌, ◌∙◌, List, [], ◌∷◌, length, drop, get_or, refl, sym, ap, subst, arith, ⊎_elim, get_or-set_other}
+use Rattle.std.proofs.Common.{ℕ, ◌<◌, ◌≤◌, ◌≡◌, ◌≢◌, ◌∙◌, List, [], ◌∷◌, drop, get_or, refl, sym, subst, arith, ⊎_elim, get_or-set_other}
 use Rattle.std.proofs.Math.ListN.{set}
 use Rattle.std.proofs.lemmas.List.{drop-set-lt, set-set}
-use Rattle.cfs_pmem.specs.Images.{Seen, WordStep, words_of, AllImages, IsSetFrom, IsSure}
+use Rattle.cfs_pmem.specs.Images.{Seen, WordStep, words_of, AllImages, IsSetFrom}
 use Rattle.cfs_pmem.proofs.ImageLemmas.{now_is_image}
 use Rattle.cfs_slot.specs.Words.{gate_of, mark_of, IsClosed, IsWhole, IsWholeButOffset}
 

@@ -1,13 +1,12 @@
 -- Words that hold a request whole.
-use Rattle.std.proofs.Common.{ℕ, zero, suc, ◌+◌, ◌-◌, ◌*◌, ◌/◌, ◌%◌, ◌==◌, ◌<◌, ◌≤◌, ◌≡◌, ◌∙◌, List, [], ◌∷◌, ◌++◌, length, take, drop, get_or, if◌then◌else◌, refl, sym, ap, subst, arith, append_assoc}
+use Rattle.std.proofs.Common.{ℕ, ◌+◌, ◌-◌, ◌*◌, ◌/◌, ◌%◌, ◌==◌, ◌<◌, ◌≤◌, ◌≡◌, ◌∙◌, List, [], ◌∷◌, ◌++◌, length, take, drop, get_or, if◌then◌else◌, refl, sym, ap, subst, arith, append_assoc}
 use Rattle.std.proofs.Math.ListN.{replicate}
 use Rattle.std.proofs.lemmas.List.{take-append-drop, take_at}
 use Rattle.std.proofs.lemmas.Grind.{flat_map-append}
 use Rattle.std.specs.Int.{w64, to_le_bytes}
-use Rattle.std.specs.List.{flat_map}
 use Rattle.cfs_file.specs.declared.request.Request.{Request}
 use Rattle.cfs_file.specs.declared.request.Request.TheVariants.{Write, Append, Truncate, Read, Sync}
-use Rattle.cfs_slot.specs.Words.{gate_of, mark_of, ino_of, offset_of, kind_of, count_of, grant_of, bytes_of, payload_of, request_of}
+use Rattle.cfs_slot.specs.Words.{gate_of, offset_of, kind_of, count_of, bytes_of, payload_of, request_of}
 use Rattle.cfs_slot.specs.Staging.{IsStageable, IsStaged, HoldsPayload, staged_offset, staged_kind, staged_payload, staged_request, words_for}
 
 -- the payload of words that hold it

@@ -1,13 +1,12 @@
 -- Words that are written one by one behind a closed gate.
-use Rattle.std.proofs.Common.{ℕ, zero, suc, ◌+◌, ◌-◌, ◌*◌, ◌<◌, ◌≤◌, ◌≡◌, ◌∙◌, List, [], ◌∷◌, ◌++◌, length, get_or, drop, inl, inr, Result, Ok, Err, OnErr, refl, sym, ap, subst, arith, append_assoc, get_or-set_same, get_or-set_other}
+use Rattle.std.proofs.Common.{ℕ, zero, suc, ◌+◌, ◌-◌, ◌<◌, ◌≤◌, ◌≡◌, ◌∙◌, List, ◌∷◌, ◌++◌, length, get_or, drop, inl, inr, Result, Ok, Err, OnErr, refl, sym, ap, subst, arith, append_assoc, get_or-set_same, get_or-set_other}
 use Rattle.std.proofs.Math.ListN.{replicate, set}
 use Rattle.std.proofs.lemmas.List.{length-set, length-replicate, replicate-append-replicate}
 use Rattle.std.proofs.lemmas.Bool.{cases_eq}
-use Rattle.cfs_pmem.specs.Images.{Seen, WordStep, words_of, wrote, failed, IsImage, AllImages}
-use Rattle.cfs_pmem.specs.Moments.{Moments}
+use Rattle.cfs_pmem.specs.Images.{Seen, WordStep, words_of, wrote, failed, AllImages}
 use Rattle.cfs_pmem.specs.Steps.{StopsIn}
 use Rattle.cfs_pmem.proofs.MomentLemmas.{begun, on_write, on_failure}
-use Rattle.cfs_slot.specs.Words.{gate_of, IsClosed}
+use Rattle.cfs_slot.specs.Words.{IsClosed}
 use Rattle.cfs_slot.specs.Writing.{HasWritten, HasStopped}
 
 -- a write behind the gate leaves it closed

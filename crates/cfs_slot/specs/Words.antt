@@ -1,5 +1,5 @@
 -- The words of a slot by name, and the request that they stand for.
-use Rattle.std.specs.Prelude.{ℕ, ◌*◌, ◌/◌, ◌%◌, ◌≡◌, ◌==◌, Bool, not, ◌&&◌, Option, Some, None, List, take, drop, if◌then◌else◌}
+use Rattle.std.specs.Prelude.{ℕ, ◌/◌, ◌%◌, ◌≡◌, ◌==◌, Bool, not, ◌&&◌, Option, Some, None, List, take, drop, if◌then◌else◌}
 use Rattle.std.specs.Int.{w64, to_le_bytes}
 use Rattle.std.specs.List.{flat_map}
 use Rattle.std.proofs.Math.ListN.{get_or, set}

@@ -2,6 +2,7 @@ use crate::{Found, Slot, found, is_stageable};
 use cfs_file::{Bytes, Request};
 use cfs_pmem::{MemRegion, Meter, Pick};
 use std::alloc::Global;
+use std::process::Abort;
 use std::test::Fail;
 
 const INO: u64 = 2;
@@ -56,51 +57,47 @@ fn after(alloc: Global, request: &Request, calls: u32) -> Result<MemRegion, Fail
     Ok(slot.into_parts())
 }
 
+fn check_words(
+    rt: &impl Abort,
+    alloc: Global,
+    request: &Request,
+    calls: u32,
+    words: &[u64],
+) -> Result<(), Fail> {
+    let region = after(alloc, request, calls)?;
+    let first = region.words().get(..words.len()).ok_or("too short")?;
+    assert_eq!(rt; first, words, "{request:?} after {calls}");
+    Ok(())
+}
+
 #[test]
 fn a_request_stands_in_its_words(rt: HostRuntime) -> Result<(), Fail> {
     let alloc = rt.alloc();
-    for (request, calls, words) in [
-        (
-            write(alloc, 5, b"hello")?,
-            1,
-            [0, 0, 2, 5, 65_541, 9, 0x6f_6c6c_6568, 0],
-        ),
-        (
-            write(alloc, 5, b"hello")?,
+    let hello = write(alloc, 5, b"hello")?;
+    check_words(
+        &rt,
+        alloc,
+        &hello,
+        1,
+        &[0, 0, 2, 5, 65_541, 9, 0x6f_6c6c_6568, 0],
+    )?;
+    let digits = append(alloc, b"123456789")?;
+    for (calls, gate, mark, offset) in [(1, 0, 0, 0), (2, 0, 0, 77), (3, 7, 0, 77), (4, 7, 1, 77)] {
+        let words = [
+            gate,
+            mark,
             2,
-            [0, 0, 2, 77, 65_541, 9, 0x6f_6c6c_6568, 0],
-        ),
-        (
-            append(alloc, b"123456789")?,
-            1,
-            [0, 0, 2, 0, 65_545, 9, 0x3837_3635_3433_3231, 0x39],
-        ),
-        (
-            append(alloc, b"123456789")?,
-            3,
-            [7, 0, 2, 77, 65_545, 9, 0x3837_3635_3433_3231, 0x39],
-        ),
-        (
-            append(alloc, b"123456789")?,
-            4,
-            [7, 1, 2, 77, 65_545, 9, 0x3837_3635_3433_3231, 0x39],
-        ),
-        (
-            Request::Truncate { length: 70 },
-            1,
-            [0, 0, 2, 70, 131_072, 9, 0, 0],
-        ),
-        (
-            Request::Truncate { length: 70 },
-            5,
-            [0, 1, 2, 77, 131_072, 9, 0, 0],
-        ),
-    ] {
-        let region = after(alloc, &request, calls)?;
-        let first = region.words().get(..8).ok_or("too short")?;
-        assert_eq!(rt; first, words.as_slice(), "{request:?} after {calls}");
+            offset,
+            65_545,
+            9,
+            0x3837_3635_3433_3231,
+            0x39,
+        ];
+        check_words(&rt, alloc, &digits, calls, &words)?;
     }
-    Ok(())
+    let cut = Request::Truncate { length: 70 };
+    check_words(&rt, alloc, &cut, 1, &[0, 0, 2, 70, 131_072, 9, 0, 0])?;
+    check_words(&rt, alloc, &cut, 5, &[0, 1, 2, 77, 131_072, 9, 0, 0])
 }
 
 /// A slot in which a write of `hello` was staged and opened with a stop at the nth writing step.
@@ -120,47 +117,37 @@ fn stopped(alloc: Global, n: u64) -> Result<MemRegion, Fail> {
     }
 }
 
+const EMPTY: [u64; 7] = [0, 0, 0, 0, 0, 0, 0];
+
+const STAGED: [u64; 7] = [0, 0, 2, 5, 65_541, 9, 0x6f_6c6c_6568];
+
+const OPEN: [u64; 7] = [7, 0, 2, 5, 65_541, 9, 0x6f_6c6c_6568];
+
+fn check_crash(rt: &impl Abort, alloc: Global, n: u64, k: u64, left: &[u64]) -> Result<(), Fail> {
+    let mut region = stopped(alloc, n)?;
+    region.crash(&mut Pick::new(k));
+    let first = region.words().get(..left.len()).ok_or("too short")?;
+    assert_eq!(rt; first, left, "stop {n}, pick {k}");
+    Ok(())
+}
+
 // The stage makes seven steps and the gate two. What a crash leaves that keeps what was durable, and one that keeps what was present.
 #[test]
 fn a_stop_leaves_the_gate_closed_or_the_request_whole(rt: HostRuntime) -> Result<(), Fail> {
     for (n, durable, present) in [
-        (1, [0, 0, 0, 0, 0], [0, 0, 0, 0, 0]),
-        (2, [0, 0, 0, 0, 0], [0, 0, 0, 0, 0]),
-        (3, [0, 0, 0, 0, 0], [0, 2, 0, 0, 0]),
-        (4, [0, 0, 0, 0, 0], [0, 2, 5, 0, 0]),
-        (5, [0, 0, 0, 0, 0], [0, 2, 5, 0, 0]),
-        (6, [0, 0, 0, 0, 0], [0, 2, 5, 9, 0]),
-        (7, [0, 0, 0, 0, 0], [0, 2, 5, 9, 0x6f_6c6c_6568]),
-        (
-            8,
-            [0, 2, 5, 9, 0x6f_6c6c_6568],
-            [0, 2, 5, 9, 0x6f_6c6c_6568],
-        ),
-        (
-            9,
-            [0, 2, 5, 9, 0x6f_6c6c_6568],
-            [7, 2, 5, 9, 0x6f_6c6c_6568],
-        ),
-        (
-            10,
-            [7, 2, 5, 9, 0x6f_6c6c_6568],
-            [7, 2, 5, 9, 0x6f_6c6c_6568],
-        ),
+        (1, EMPTY, EMPTY),
+        (2, EMPTY, EMPTY),
+        (3, EMPTY, [0, 0, 2, 0, 0, 0, 0]),
+        (4, EMPTY, [0, 0, 2, 5, 0, 0, 0]),
+        (5, EMPTY, [0, 0, 2, 5, 65_541, 0, 0]),
+        (6, EMPTY, [0, 0, 2, 5, 65_541, 9, 0]),
+        (7, EMPTY, STAGED),
+        (8, STAGED, STAGED),
+        (9, STAGED, OPEN),
+        (10, OPEN, OPEN),
     ] {
-        for (k, left) in [(0, durable), (1, present)] {
-            let mut region = stopped(rt.alloc(), n)?;
-            region.crash(&mut Pick::new(k));
-            let words = region.words();
-            let [gate, ino, offset, grant, payload] = [0, 2, 3, 5, 6].map(|i| words
-                .get(i)
-                .copied()
-                .unwrap_or(1));
-            assert_eq!(rt;
-                [gate, ino, offset, grant, payload],
-                left,
-                "stop {n}, pick {k}"
-            );
-        }
+        check_crash(&rt, rt.alloc(), n, 0, &durable)?;
+        check_crash(&rt, rt.alloc(), n, 1, &present)?;
     }
     Ok(())
 }

@@ -1,11 +1,9 @@
-use Rattle.std.proofs.Common.{ℕ, ◌∙◌, ◌≡◌, ◌+◌, ◌*◌, ◌≤◌, List, ◌++◌, length, sym, ap, subst, arith}
+use Rattle.std.proofs.Common.{ℕ, ◌∙◌, ◌≡◌, ◌+◌, ◌≤◌, List, ◌++◌, length, sym, ap, subst, arith}
 use Rattle.std.proofs.Math.ListN.{replicate}
-use Rattle.cfs_pmem.specs.Images.{Seen, WordStep, words_of, IsImage}
-use Rattle.cfs_pmem.specs.Moments.{Moments}
+use Rattle.cfs_pmem.specs.Images.{Seen, WordStep, words_of}
 use Rattle.cfs_pmem.proofs.ImageLemmas.{now_is_image, sure_kept}
 use Rattle.cfs_pmem.proofs.MomentLemmas.{after, at_end, on_failure, on_persist}
 use Rattle.cfs_slot.specs.Staging.{IsStaged, steps_to_stage, staged_payload, words_for}
-use Rattle.cfs_slot.specs.Words.{IsClosed}
 use Rattle.cfs_slot.proofs.StagedLemmas.{staged_whole}
 use Rattle.cfs_slot.proofs.WritingLemmas.{stops_in, steps_after, on_err}
 use Rattle.cfs_slot.proofs.staging.write_request.Goals as goal

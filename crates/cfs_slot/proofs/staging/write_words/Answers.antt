@@ -1,4 +1,4 @@
-use Rattle.std.proofs.Common.{◌∙◌, ◌≡◌, ◌+◌, ◌<◌, length, get_or, refl, ap, arith}
+use Rattle.std.proofs.Common.{◌∙◌, ◌+◌, ◌<◌, length, get_or, refl, arith}
 use Rattle.cfs_pmem.specs.Images.{words_of}
 use Rattle.cfs_slot.proofs.WritingLemmas.{written_more, stopped_at, on_err}
 use Rattle.cfs_slot.proofs.staging.write_words.Goals as goal

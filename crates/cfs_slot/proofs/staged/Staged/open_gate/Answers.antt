@@ -1,4 +1,4 @@
-use Rattle.std.proofs.Common.{◌≡◌, ◌∙◌, List, drop, ap, subst, sym, arith}
+use Rattle.std.proofs.Common.{◌≡◌, ◌∙◌, drop, ap, arith}
 use Rattle.std.proofs.Math.ListN.{set}
 use Rattle.cfs_pmem.specs.Images.{Seen, WordStep, words_of}
 use Rattle.cfs_pmem.proofs.ImageLemmas.{now_is_image}
