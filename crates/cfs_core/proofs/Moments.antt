@@ -1,14 +1,14 @@
 -- The moments within an event may come where the event may.
-use Rattle.std.proofs.Common.{◌≡◌, ℕ, Bool, true, false, ◌&&◌, ◌||◌, not, if◌then◌else◌, Some, None, List, [], ◌∷◌, refl}
+use Rattle.std.proofs.Common.{◌≡◌, ℕ, Bool, true, false, ◌&&◌, ◌||◌, if◌then◌else◌, refl}
 use Rattle.std.specs.List.{list_all}
 use Rattle.cfs_core.specs.declared.flag.Flag.{Flag}
-use Rattle.cfs_core.specs.declared.flag.Flag.TheVariants.{On, Unsure}
+use Rattle.cfs_core.specs.declared.flag.Flag.TheVariants.{On}
 use Rattle.cfs_core.specs.declared.event.Event.{Event}
 use Rattle.cfs_core.specs.declared.event.Event.TheVariants as events
 use Rattle.cfs_core.specs.declared.event.End.TheVariants as ends
 use Rattle.cfs_core.specs.declared.event.SizeEnd.TheVariants as sizes
 use Rattle.cfs_core.specs.declared.inode_core.Core.{Core}
-use Rattle.cfs_core.specs.Words.{is_out, is_through, track}
+use Rattle.cfs_core.specs.Words.{is_through, track}
 use Rattle.cfs_core.specs.May.{ends_well, may, stands_at}
 use Rattle.cfs_core.specs.Within.{within}
 use Rattle.cfs_core.proofs.Legal.{both}
