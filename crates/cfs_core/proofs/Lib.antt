@@ -1,3 +1,5 @@
 pub mod Legal
+pub mod Moments
+pub mod Order
 pub mod Runs
 pub mod Sizes

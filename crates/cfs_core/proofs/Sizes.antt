@@ -1,12 +1,12 @@
 -- The sizes of files, and the ends of writes.
-use Rattle.std.proofs.Common.{◌≡◌, ℕ, ◌+◌, ◌<◌, ◌≤◌, List, length, max, true, arith}
+use Rattle.std.proofs.Common.{◌≡◌, ℕ, ◌+◌, ◌≤◌, List, length, max, true, arith}
 use Rattle.std.proofs.lemmas.Bool.Decides.{nat_tests}
 use Rattle.cfs_file.specs.declared.request.Request.{Request}
 use Rattle.cfs_file.specs.declared.request.Request.TheVariants as requests
 use Rattle.cfs_file.specs.declared.file.TheConstants.{LONGEST_FILE}
-use Rattle.cfs_file.specs.File.{put, resized}
+use Rattle.cfs_file.specs.File.{put}
 use Rattle.cfs_file.specs.Span.{EndFits}
-use Rattle.cfs_file.proofs.Positions.{put-writes, length-resized}
+use Rattle.cfs_file.proofs.Positions.{put-writes}
 use Rattle.cfs_core.specs.May.{fits, is_query}
 
 pub length-put : (file : List ℕ) (offset : ℕ) (bytes : List ℕ) → length (put file offset bytes) ≡ max (length file) (offset + length bytes)

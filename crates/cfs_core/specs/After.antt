@@ -1,10 +1,8 @@
 -- What each event changes.
-use Rattle.std.specs.Prelude.{ℕ, ◌+◌, ◌-◌, ◌*◌, ◌==◌, Bool, true, false, not, if◌then◌else◌, Option, Some, None, List, [], ◌∷◌, ◌++◌, length, map, filter, max, get_or, set}
+use Rattle.std.specs.Prelude.{ℕ, ◌-◌, Bool, true, false, not, if◌then◌else◌, Option, Some, None, List, [], ◌∷◌, ◌++◌, length, map, filter, get_or, set}
 use Rattle.std.specs.List.{range_with_len}
-use Rattle.std.specs.Option.{option_map}
 use Rattle.cfs_file.specs.declared.entry.Entry.{Entry}
 use Rattle.cfs_file.specs.declared.span.Span.{Span}
-use Rattle.cfs_file.specs.declared.span.Span.TheVariants.{Nothing, Range, From}
 use Rattle.cfs_file.specs.File.{put}
 use Rattle.cfs_core.specs.declared.flag.Flag.{Flag}
 use Rattle.cfs_core.specs.declared.flag.Flag.TheVariants.{Off, On, Unsure}
@@ -12,7 +10,6 @@ use Rattle.cfs_core.specs.declared.state.State.{State}
 use Rattle.cfs_core.specs.declared.state.State.TheVariants.{Waiting, Out, Noop, Unserved, Closed}
 use Rattle.cfs_core.specs.declared.track.Track.{Track}
 use Rattle.cfs_core.specs.declared.doubt.Doubt.{Doubt}
-use Rattle.cfs_core.specs.declared.stretch.Stretch.{Stretch}
 use Rattle.cfs_core.specs.declared.image.Image.{Image}
 use Rattle.cfs_core.specs.declared.event.Event.{Event}
 use Rattle.cfs_core.specs.declared.event.Event.TheVariants as events

@@ -1,5 +1,5 @@
 -- The core that a run begins with.
-use Rattle.std.specs.Prelude.{◌≡◌, ℕ, Bool, true, false, None, List, [], length}
+use Rattle.std.specs.Prelude.{◌≡◌, true, false, None, [], length}
 use Rattle.std.specs.List.{list_all}
 use Rattle.cfs_core.specs.declared.block.TheConstants.{BLOCKS}
 use Rattle.cfs_core.specs.declared.inode_core.Core.{Core}

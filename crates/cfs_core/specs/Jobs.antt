@@ -1,6 +1,6 @@
 -- The job of an entry: which blocks it takes, and what its steps note.
-use Rattle.std.specs.Prelude.{ℕ, ◌-◌, ◌==◌, Bool, true, false, not, ◌&&◌, ◌||◌, if◌then◌else◌, Option, Some, None, List, length, get_or, nat_lt, find}
-use Rattle.std.specs.List.{list_any, range_with_len}
+use Rattle.std.specs.Prelude.{ℕ, ◌==◌, Bool, true, false, ◌&&◌, if◌then◌else◌, Option, Some, None, List, length, get_or, nat_lt, find}
+use Rattle.std.specs.List.{range_with_len}
 use Rattle.cfs_file.specs.Span.{meets}
 use Rattle.cfs_core.specs.declared.block.TheConstants.{BLOCKS}
 use Rattle.cfs_core.specs.declared.flag.Flag.{Flag}

@@ -1,9 +1,14 @@
 -- What holds of every run.
-use Rattle.std.specs.Prelude.{◌≡◌, Bool, false, List, []}
-use Rattle.std.specs.List.{list_any}
+use Rattle.std.specs.Prelude.{◌≡◌, ℕ, ◌+◌, ◌≤◌, true, false, List, [], ◌∷◌, map}
+use Rattle.std.specs.List.{list_all, list_any}
 use Rattle.cfs_file.specs.Log.{IsLegal}
 use Rattle.cfs_core.specs.declared.event.Event.{Event}
 use Rattle.cfs_core.specs.declared.inode_core.Core.{Core}
+use Rattle.cfs_core.specs.declared.image.Image.{Image}
+use Rattle.cfs_core.specs.Fresh.{IsEmpty}
+use Rattle.cfs_core.specs.Medium.{is_image, live_entries}
+use Rattle.cfs_core.specs.May.{may}
+use Rattle.cfs_core.specs.Within.{within}
 use Rattle.cfs_core.specs.Run.{IsRun, after_all, is_mount}
 
 -- Until a mount, the log stays legal: places 1, 2, 3 and so on, and every file on the way short enough.
@@ -11,3 +16,20 @@ abbrev pub LogsStayLegal : Type 0
 LogsStayLegal =
     (core : Core) (events : List Event) → IsLegal core.base core.log [] → IsRun core events →
     list_any is_mount events ≡ false → IsLegal (after_all core events).base (after_all core events).log []
+
+-- Each moment within an event is a failed event that may come where the event may.
+abbrev pub MomentsMayCome : Type 0
+MomentsMayCome = (core : Core) (event : Event) → may core event ≡ true → list_all (may core) (within core event) ≡ true
+
+-- from this number on, each one is greater than the one before
+abbrev pub Rises : ℕ → List ℕ → Type 0
+Rises low [] = Unit {0}
+Rises low (n ∷ ns) = (low ≤ n) × Rises (n + 1) ns
+
+-- The live entries of every image of every run stand in the order of the numbers in their gates: those
+-- of the log by place, and the request in doubt last.
+abbrev pub GatesRise : Type 0
+GatesRise =
+    (core : Core) (events : List Event) (image : Image) → IsEmpty core → IsRun core events →
+    is_image (after_all core events) image ≡ true →
+    Rises 0 (map (λ e. e.place) (live_entries (after_all core events) image))

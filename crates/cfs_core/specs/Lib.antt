@@ -4,5 +4,6 @@ pub mod Medium
 pub mod Fresh
 pub mod May
 pub mod After
+pub mod Within
 pub mod Run
 pub mod Laws

@@ -11,7 +11,6 @@ use Rattle.cfs_file.specs.Span.{meets, reaches_over, span}
 use Rattle.cfs_core.specs.declared.block.TheConstants.{BLOCK, BLOCKS}
 use Rattle.cfs_core.specs.declared.flag.Flag.{Flag}
 use Rattle.cfs_core.specs.declared.flag.Flag.TheVariants.{Off}
-use Rattle.cfs_core.specs.declared.state.Job.{Job}
 use Rattle.cfs_core.specs.declared.track.Track.{Track}
 use Rattle.cfs_core.specs.declared.doubt.Doubt.{Doubt}
 use Rattle.cfs_core.specs.declared.stretch.Stretch.{Stretch}

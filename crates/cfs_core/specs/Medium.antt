@@ -4,7 +4,6 @@ use Rattle.std.specs.List.{list_any, list_all, range_with_len}
 use Rattle.cfs_file.specs.declared.entry.Entry.{Entry}
 use Rattle.cfs_file.specs.declared.span.Span.{Span}
 use Rattle.cfs_file.specs.Log.{file_of}
-use Rattle.cfs_file.specs.Span.{meets}
 use Rattle.cfs_core.specs.declared.block.TheConstants.{BLOCK}
 use Rattle.cfs_core.specs.declared.flag.Flag.{Flag}
 use Rattle.cfs_core.specs.declared.flag.Flag.TheVariants.{Off, On, Unsure}

@@ -1,4 +1,4 @@
-use Rattle.std.proofs.Common.{ap, nat_le, refl, sym}
+use Rattle.std.proofs.Common.{ap, nat_le, sym}
 use Rattle.cfs_file.specs.declared.file.TheConstants.{LONGEST_FILE}
 use Rattle.cfs_file.proofs.Positions.{length-resized}
 use Rattle.cfs_core.proofs.Sizes.{length-put}
