@@ -1,3 +1,4 @@
+pub mod Alive
 pub mod Legal
 pub mod Moments
 pub mod Order

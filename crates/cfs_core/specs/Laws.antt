@@ -5,8 +5,9 @@ use Rattle.cfs_file.specs.Log.{IsLegal}
 use Rattle.cfs_core.specs.declared.event.Event.{Event}
 use Rattle.cfs_core.specs.declared.inode_core.Core.{Core}
 use Rattle.cfs_core.specs.declared.image.Image.{Image}
+use Rattle.cfs_core.specs.Words.{is_live, track}
 use Rattle.cfs_core.specs.Fresh.{IsEmpty}
-use Rattle.cfs_core.specs.Medium.{is_image, live_entries}
+use Rattle.cfs_core.specs.Medium.{is_image, is_open, live_entries}
 use Rattle.cfs_core.specs.May.{may}
 use Rattle.cfs_core.specs.Within.{within}
 use Rattle.cfs_core.specs.Run.{IsRun, after_all, is_mount}
@@ -33,3 +34,10 @@ GatesRise =
     (core : Core) (events : List Event) (image : Image) → IsEmpty core → IsRun core events →
     is_image (after_all core events) image ≡ true →
     Rises 0 (map (λ e. e.place) (live_entries (after_all core events) image))
+
+-- In every image of every run, an entry whose gate is open and whose mark is not set is live.
+abbrev pub OnlyLiveAreOpen : Type 0
+OnlyLiveAreOpen =
+    (core : Core) (events : List Event) (image : Image) → IsEmpty core → IsRun core events →
+    is_image (after_all core events) image ≡ true →
+    (place : ℕ) → is_open image place ≡ true → is_live (track (after_all core events).tracks place).state ≡ true

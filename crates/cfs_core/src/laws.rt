@@ -1,6 +1,6 @@
 //! What holds of every run, as contracts of functions that do nothing.
 
-ghost use Rattle.cfs_core.specs.Laws.{GatesRise, LogsStayLegal, MomentsMayCome};
+ghost use Rattle.cfs_core.specs.Laws.{GatesRise, LogsStayLegal, MomentsMayCome, OnlyLiveAreOpen};
 
 /// Until a mount, the log of every run stays legal.
 pub fn logs_stay_legal()
@@ -16,3 +16,9 @@ pub fn moments_may_come()
 pub fn gates_rise()
     ensures { GatesRise }
 {}
+
+/// What is open in an image is live: what was retired, skipped or marked is not recovered again.
+pub fn only_live_are_open()
+    ensures { OnlyLiveAreOpen }
+{
+}
