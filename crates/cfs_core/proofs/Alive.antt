@@ -1,5 +1,5 @@
 -- What is open in an image is live, and what is live is open, but where it is applied or a mark was tried.
-use Rattle.std.proofs.Common.{◌≡◌, ◌⊎◌, inl, inr, ℕ, ◌+◌, ◌-◌, ◌<◌, ◌≤◌, ◌==◌, Bool, true, false, ◌&&◌, ◌||◌, not, if◌then◌else◌, Option, Some, None, List, [], ◌∷◌, ◌++◌, length, get_or, set, arith, refl, sym, ◌∙◌, length-append, get_or-set_other, nat_lt}
+use Rattle.std.proofs.Common.{◌≡◌, inl, inr, ℕ, ◌-◌, ◌==◌, Bool, true, false, ◌||◌, not, if◌then◌else◌, Option, Some, None, List, [], ◌∷◌, ◌++◌, length, get_or, set, arith, refl, length-append, get_or-set_other}
 use Rattle.std.proofs.lemmas.Bool.{cases_lt}
 use Rattle.std.proofs.lemmas.Bool.Decides.{nat_tests}
 use Rattle.std.proofs.lemmas.Grind.{get_or-set_at}
@@ -8,7 +8,6 @@ use Rattle.std.proofs.lemmas.List.FromFn.{get_or-map-range_with_len, length-map-
 use Rattle.cfs_file.specs.declared.entry.Entry.{Entry}
 use Rattle.cfs_core.specs.declared.flag.Flag.{Flag}
 use Rattle.cfs_core.specs.declared.flag.Flag.TheVariants.{Off, On, Unsure}
-use Rattle.cfs_core.specs.declared.state.Job.{Job}
 use Rattle.cfs_core.specs.declared.state.State.{State}
 use Rattle.cfs_core.specs.declared.state.State.TheVariants.{Waiting, Out, Noop, Unserved, Closed}
 use Rattle.cfs_core.specs.declared.track.Track.{Track}
@@ -20,15 +19,15 @@ use Rattle.cfs_core.specs.declared.event.End.TheVariants as ends
 use Rattle.cfs_core.specs.declared.event.SizeEnd.{SizeEnd}
 use Rattle.cfs_core.specs.declared.event.SizeEnd.TheVariants as sizes
 use Rattle.cfs_core.specs.declared.inode_core.Core.{Core}
-use Rattle.cfs_core.specs.Words.{blank, can_be, flag_of, has_block, is_live, is_noop, is_off, is_on, is_out, is_unserved, is_waiting, sized, track}
+use Rattle.cfs_core.specs.Words.{blank, can_be, flag_of, has_block, is_live, is_off, is_on, is_out, is_unserved, is_waiting, sized, track}
 use Rattle.cfs_core.specs.Fresh.{IsEmpty}
 use Rattle.cfs_core.specs.Jobs.{next_job, state_flushed, state_written}
 use Rattle.cfs_core.specs.Medium.{bit_at, is_image, is_open}
-use Rattle.cfs_core.specs.May.{case, ends_well, is_in_phase, may_finish, may_flush, may_serve, may_write, span_now, stands_at, is_size_set}
-use Rattle.cfs_core.specs.After.{admitted, after, block_written, change_track, crashed_to, finished, flushed, logged, marked, more_to_come, mounted, put_back, query_track, retired, sure_track, sure_tracks, with_size, with_state, with_track}
+use Rattle.cfs_core.specs.May.{case, ends_well, is_in_phase, may_finish, may_write, span_now}
+use Rattle.cfs_core.specs.After.{admitted, after, block_written, change_track, crashed_to, finished, flushed, logged, marked, more_to_come, put_back, query_track, retired, sure_track, sure_tracks, with_size, with_track}
 use Rattle.cfs_core.specs.Run.{IsRun, after_all}
 use Rattle.cfs_core.proofs.Legal.{both}
-use Rattle.cfs_core.proofs.Order.{and_true, first_of_and, gate_allowed, mark_allowed, as_many, same_or_not, some_place, track_is, writes, serves}
+use Rattle.cfs_core.proofs.Order.{first_of_and, gate_allowed, mark_allowed, as_many, same_or_not, track_is, writes, serves}
 
 -- A live entry's gate is open in every image, unless it is applied; one that is not live has its gate
 -- closed, or its mark set, in every image.

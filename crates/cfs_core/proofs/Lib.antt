@@ -1,4 +1,5 @@
 pub mod Alive
+pub mod Apart
 pub mod Legal
 pub mod Moments
 pub mod Order

@@ -1,11 +1,12 @@
 -- What holds of every run.
-use Rattle.std.specs.Prelude.{◌≡◌, ℕ, ◌+◌, ◌≤◌, true, false, List, [], ◌∷◌, map}
+use Rattle.std.specs.Prelude.{◌≡◌, ℕ, ◌+◌, ◌<◌, ◌≤◌, true, false, List, [], ◌∷◌, map}
 use Rattle.std.specs.List.{list_all, list_any}
 use Rattle.cfs_file.specs.Log.{IsLegal}
+use Rattle.cfs_file.specs.Span.{meets}
 use Rattle.cfs_core.specs.declared.event.Event.{Event}
 use Rattle.cfs_core.specs.declared.inode_core.Core.{Core}
 use Rattle.cfs_core.specs.declared.image.Image.{Image}
-use Rattle.cfs_core.specs.Words.{is_live, track}
+use Rattle.cfs_core.specs.Words.{is_live, is_out, track}
 use Rattle.cfs_core.specs.Fresh.{IsEmpty}
 use Rattle.cfs_core.specs.Medium.{is_image, is_open, live_entries}
 use Rattle.cfs_core.specs.May.{may}
@@ -41,3 +42,13 @@ OnlyLiveAreOpen =
     (core : Core) (events : List Event) (image : Image) → IsEmpty core → IsRun core events →
     is_image (after_all core events) image ≡ true →
     (place : ℕ) → is_open image place ≡ true → is_live (track (after_all core events).tracks place).state ≡ true
+
+-- In every run, a job works on no position of an earlier live entry. So two jobs that are out have no
+-- position in common.
+abbrev pub JobsAreApart : Type 0
+JobsAreApart =
+    (core : Core) (events : List Event) → IsEmpty core → IsRun core events →
+    (earlier later : ℕ) → earlier < later →
+    is_live (track (after_all core events).tracks earlier).state ≡ true →
+    is_out (track (after_all core events).tracks later).state ≡ true →
+    meets (track (after_all core events).tracks earlier).span (track (after_all core events).tracks later).span ≡ false

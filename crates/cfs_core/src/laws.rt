@@ -1,6 +1,6 @@
 //! What holds of every run, as contracts of functions that do nothing.
 
-ghost use Rattle.cfs_core.specs.Laws.{GatesRise, LogsStayLegal, MomentsMayCome, OnlyLiveAreOpen};
+ghost use Rattle.cfs_core.specs.Laws.{GatesRise, JobsAreApart, LogsStayLegal, MomentsMayCome, OnlyLiveAreOpen};
 
 /// Until a mount, the log of every run stays legal.
 pub fn logs_stay_legal()
@@ -20,5 +20,9 @@ pub fn gates_rise()
 /// What is open in an image is live: what was retired, skipped or marked is not recovered again.
 pub fn only_live_are_open()
     ensures { OnlyLiveAreOpen }
-{
-}
+{}
+
+/// A job works on no position of an earlier live entry.
+pub fn jobs_are_apart()
+    ensures { JobsAreApart }
+{}
