@@ -27,7 +27,7 @@ use Rattle.cfs_core.specs.May.{case, ends_well, is_in_phase, may_finish, may_wri
 use Rattle.cfs_core.specs.After.{admitted, after, block_written, change_track, crashed_to, finished, flushed, logged, marked, more_to_come, put_back, query_track, retired, sure_track, sure_tracks, with_size, with_track}
 use Rattle.cfs_core.specs.Run.{IsRun, after_all}
 use Rattle.cfs_core.proofs.Legal.{both}
-use Rattle.cfs_core.proofs.Order.{first_of_and, gate_allowed, mark_allowed, as_many, same_or_not, track_is, writes, serves}
+use Rattle.cfs_core.proofs.Order.{first_of_and, gate_allowed, mark_allowed, as_many, same_or_not, some_place, track_is, writes, serves}
 
 -- A live entry's gate is open in every image, unless it is applied; one that is not live has its gate
 -- closed, or its mark set, in every image.
@@ -262,7 +262,7 @@ sound-empty core empty k = rw empty.tracks refl
 
 -- ---- what an image has
 
-some_bit : (bits : List Bool) (place : ℕ) → bit_at bits place ≡ true → (place ≡ 0 → ⊥) × (get_or bits (place - 1) false ≡ true)
+pub some_bit : (bits : List Bool) (place : ℕ) → bit_at bits place ≡ true → (place ≡ 0 → ⊥) × (get_or bits (place - 1) false ≡ true)
 some_bit bits place bit = elim (same_or_not place 0) [
   | inl is_zero ↦ let none : bit_at bits 0 ≡ true = rw is_zero at bit in cc
   | inr some ↦ let test : (place == 0) ≡ false = grind (arith, nat_tests) in (some, rw test at bit)
@@ -312,3 +312,43 @@ open-lives core image sound h place opened =
 
     apart : (b : Bool) → b ≡ true → b ≡ false → ⊥
     apart b on off = cc
+
+-- a live entry that is not applied, and that no mark was tried for, is open
+pub lives-open : (core : Core) (image : Image) → AreSound core → is_image core image ≡ true → (place : ℕ) →
+    is_live (track core.tracks place).state ≡ true → (track core.tracks place).applied ≡ false → is_off (track core.tracks place).mark ≡ true →
+    is_open image place ≡ true
+lives-open core image sound h place live idle unmarked =
+    let some = some_place is_live refl core.tracks place live in
+    let at : track core.tracks place ≡ get_or core.tracks (place - 1) blank = track_is core.tracks place (place - 1) some refl in
+    let t : Track = get_or core.tracks (place - 1) blank in
+    let test : (place == 0) ≡ false = not_zero some in
+    elim (cases_lt (place - 1) (length core.tracks)) [
+      | inl within ↦
+          let gate : get_or image.gates (place - 1) false ≡ true =
+          is_open_gate t.gate (get_or image.gates (place - 1) false) (gate_allowed core image (place - 1) h within)
+          (gate_on t (rw at at live) (rw at at idle) (sound (place - 1))) in
+          let mark : get_or image.marks (place - 1) false ≡ false =
+          is_no_mark t.mark (get_or image.marks (place - 1) false) (mark_allowed core image (place - 1) h within) (rw at at unmarked) in
+          rw (test, gate, mark) refl
+      | inr past ↦
+          let empty : get_or core.tracks (place - 1) blank ≡ blank = get_or_past core.tracks (place - 1) blank past in
+          let own : is_live blank.state ≡ true = rw (at, empty) at live in
+          cc
+    ]
+  where
+    not_zero : (place ≡ 0 → ⊥) → (place == 0) ≡ false
+    not_zero some = grind (arith, nat_tests)
+
+    gate_on : (x : Track) → is_live x.state ≡ true → x.applied ≡ false → is_sound x ≡ true → is_on x.gate ≡ true
+    gate_on x live_now idle_now is = rw (live_now, idle_now) at is
+
+    is_open_gate : (f : Flag) (b : Bool) → can_be f b ≡ true → is_on f ≡ true → b ≡ true
+    is_open_gate Off b can on = cc
+    is_open_gate On b can on = can
+    is_open_gate Unsure b can on = cc
+
+    is_no_mark : (f : Flag) (b : Bool) → can_be f b ≡ true → is_off f ≡ true → b ≡ false
+    is_no_mark Off true can off = cc
+    is_no_mark Off false can off = refl
+    is_no_mark On b can off = cc
+    is_no_mark Unsure b can off = cc

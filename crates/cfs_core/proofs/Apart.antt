@@ -37,7 +37,7 @@ AreApart core = (i j : ℕ) → i < j → is_live (get_or core.tracks i blank).s
     meets (get_or core.tracks i blank).span (get_or core.tracks j blank).span ≡ false
 
 -- what stands at an index once a track is put
-seen : (tracks : List Track) (place : ℕ) (t : Track) (k : ℕ) →
+pub seen : (tracks : List Track) (place : ℕ) (t : Track) (k : ℕ) →
     ((k ≡ place - 1) × (get_or (set tracks (place - 1) t) k blank ≡ t)) ⊎ (get_or (set tracks (place - 1) t) k blank ≡ get_or tracks k blank)
 seen tracks place t k = elim (same_or_not k (place - 1)) [
   | inl same ↦ elim (cases_lt (place - 1) (length tracks)) [

@@ -284,6 +284,11 @@ marks_of_image core image h =
     let d = both (gates_agree core.tracks image.gates) (marks_agree core.tracks image.marks && can_be (doubt_gate core.doubt) image.doubt) c.1 in
     (both (marks_agree core.tracks image.marks) (can_be (doubt_gate core.doubt) image.doubt) d.1).0
 
+pub as_many_marks : (core : Core) (image : Image) → is_image core image ≡ true → length image.marks ≡ length core.tracks
+as_many_marks core image h =
+    let test = (both (length image.marks == length core.tracks) (allow_marks core.tracks image.marks) (marks_of_image core image h)).0 in
+    grind (arith, nat_tests)
+
 pub mark_allowed : (core : Core) (image : Image) (k : ℕ) → is_image core image ≡ true → k < length core.tracks →
     can_be (get_or core.tracks k blank).mark (get_or image.marks k false) ≡ true
 mark_allowed core image k h within =

@@ -2,13 +2,13 @@
 use Rattle.std.specs.Prelude.{◌≡◌, ℕ, ◌+◌, ◌<◌, ◌≤◌, true, false, List, [], ◌∷◌, map}
 use Rattle.std.specs.List.{list_all, list_any}
 use Rattle.cfs_file.specs.Log.{IsLegal}
-use Rattle.cfs_file.specs.Span.{meets}
+use Rattle.cfs_file.specs.Span.{meets, reaches_over}
 use Rattle.cfs_core.specs.declared.event.Event.{Event}
 use Rattle.cfs_core.specs.declared.inode_core.Core.{Core}
 use Rattle.cfs_core.specs.declared.image.Image.{Image}
-use Rattle.cfs_core.specs.Words.{is_live, is_out, track}
+use Rattle.cfs_core.specs.Words.{is_live, is_off, is_out, track}
 use Rattle.cfs_core.specs.Fresh.{IsEmpty}
-use Rattle.cfs_core.specs.Medium.{is_image, is_open, live_entries}
+use Rattle.cfs_core.specs.Medium.{bit_at, is_image, is_open, live_entries}
 use Rattle.cfs_core.specs.May.{may}
 use Rattle.cfs_core.specs.Within.{within}
 use Rattle.cfs_core.specs.Run.{IsRun, after_all, is_mount}
@@ -52,3 +52,20 @@ JobsAreApart =
     is_live (track (after_all core events).tracks earlier).state ≡ true →
     is_out (track (after_all core events).tracks later).state ≡ true →
     meets (track (after_all core events).tracks earlier).span (track (after_all core events).tracks later).span ≡ false
+
+-- In every image of every run, an entry whose mark is set is covered by a later one.
+abbrev pub MarkedAreCovered : Type 0
+MarkedAreCovered =
+    (core : Core) (events : List Event) (image : Image) → IsEmpty core → IsRun core events →
+    is_image (after_all core events) image ≡ true →
+    (place : ℕ) → bit_at image.marks place ≡ true →
+    (by : ℕ) × ((place < by) × (reaches_over (track (after_all core events).tracks by).span (track (after_all core events).tracks place).span ≡ true))
+
+-- In every image of every run, a live entry is open, unless it is applied or a mark of it was tried.
+abbrev pub LiveAreOpen : Type 0
+LiveAreOpen =
+    (core : Core) (events : List Event) (image : Image) → IsEmpty core → IsRun core events →
+    is_image (after_all core events) image ≡ true →
+    (place : ℕ) → is_live (track (after_all core events).tracks place).state ≡ true →
+    (track (after_all core events).tracks place).applied ≡ false → is_off (track (after_all core events).tracks place).mark ≡ true →
+    is_open image place ≡ true

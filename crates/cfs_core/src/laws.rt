@@ -1,6 +1,6 @@
 //! What holds of every run, as contracts of functions that do nothing.
 
-ghost use Rattle.cfs_core.specs.Laws.{GatesRise, JobsAreApart, LogsStayLegal, MomentsMayCome, OnlyLiveAreOpen};
+ghost use Rattle.cfs_core.specs.Laws.{GatesRise, JobsAreApart, LiveAreOpen, LogsStayLegal, MarkedAreCovered, MomentsMayCome, OnlyLiveAreOpen};
 
 /// Until a mount, the log of every run stays legal.
 pub fn logs_stay_legal()
@@ -25,4 +25,14 @@ pub fn only_live_are_open()
 /// A job works on no position of an earlier live entry.
 pub fn jobs_are_apart()
     ensures { JobsAreApart }
+{}
+
+/// An entry whose mark is set is covered by a later one.
+pub fn marked_are_covered()
+    ensures { MarkedAreCovered }
+{}
+
+/// What is live is open in an image, unless it is applied or a mark of it was tried.
+pub fn live_are_open()
+    ensures { LiveAreOpen }
 {}
