@@ -1,3 +1,6 @@
+pub mod Alive
+pub mod Apart
+pub mod Covered
 pub mod Legal
 pub mod Moments
 pub mod Order

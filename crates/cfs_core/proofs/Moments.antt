@@ -17,7 +17,7 @@ pub and_all : (a b : Bool) → a ≡ true → b ≡ true → (a && b) ≡ true
 and_all true b h k = k
 and_all false b h k = h
 
-or_right : (a b : Bool) → b ≡ true → (a || b) ≡ true
+pub or_right : (a b : Bool) → b ≡ true → (a || b) ≡ true
 or_right true b h = refl
 or_right false b h = h
 

@@ -26,7 +26,7 @@ use Rattle.cfs_core.specs.declared.event.SizeEnd.{SizeEnd}
 use Rattle.cfs_core.specs.declared.event.SizeEnd.TheVariants as sizes
 use Rattle.cfs_core.specs.Fresh.{IsEmpty}
 use Rattle.cfs_core.specs.Jobs.{state_flushed, state_written}
-use Rattle.cfs_core.specs.Medium.{agree, allow_gates, bit_at, bytes_agree, doubt_gate, file, gates_agree, in_doubt, is_image, is_open, is_size, live_entries, marks_agree}
+use Rattle.cfs_core.specs.Medium.{agree, allow_gates, allow_marks, bit_at, bytes_agree, doubt_gate, file, gates_agree, in_doubt, is_image, is_open, is_size, live_entries, marks_agree}
 use Rattle.cfs_core.specs.Run.{IsRun, after_all}
 use Rattle.cfs_core.specs.May.{case, fits, is_change, is_in_phase, is_mapped, is_next, may_admit, may_flush, may_serve, may_write, span_now}
 use Rattle.cfs_core.specs.After.{admitted, after, block_written, change_track, crashed_to, finished, flushed, logged, marked, mounted, query_track, sure_doubt, sure_track, sure_tracks, with_size, with_state, with_track}
@@ -138,19 +138,19 @@ block_no Noop block is query = cc
 block_no Unserved block is query = cc
 block_no Closed block is query = cc
 
-same_or_not : (a b : ℕ) → (a ≡ b) ⊎ (a ≡ b → ⊥)
+pub same_or_not : (a b : ℕ) → (a ≡ b) ⊎ (a ≡ b → ⊥)
 same_or_not a b = elim (cases_lt a b) [
   | inl less ↦ inr (λ e. omega arith)
   | inr up ↦ elim (cases_lt b a) [ inl more ↦ inr (λ e. omega arith) | inr down ↦ inl (omega arith) ]
 ]
 
-track_is : (tracks : List Track) (place k : ℕ) → (place ≡ 0 → ⊥) → k ≡ place - 1 → track tracks place ≡ get_or tracks k blank
+pub track_is : (tracks : List Track) (place k : ℕ) → (place ≡ 0 → ⊥) → k ≡ place - 1 → track tracks place ≡ get_or tracks k blank
 track_is tracks place k some same =
     let test : (place == 0) ≡ false = grind (arith, nat_tests) in
     rw (test, same) refl
 
 -- where a state passes that of no request, the place is one
-some_place : (test : State → Bool) → test Closed ≡ false → (tracks : List Track) (place : ℕ) → test (track tracks place).state ≡ true → place ≡ 0 → ⊥
+pub some_place : (test : State → Bool) → test Closed ≡ false → (tracks : List Track) (place : ℕ) → test (track tracks place).state ≡ true → place ≡ 0 → ⊥
 some_place test none tracks place h is_zero =
     let at_zero : test (track tracks 0).state ≡ true = rw is_zero at h in
     cc
@@ -264,16 +264,36 @@ gates_of_image core image h =
     let c = both (bytes_agree core image.bytes) (gates_agree core.tracks image.gates && (marks_agree core.tracks image.marks && can_be (doubt_gate core.doubt) image.doubt)) b.1 in
     (both (gates_agree core.tracks image.gates) (marks_agree core.tracks image.marks && can_be (doubt_gate core.doubt) image.doubt) c.1).0
 
-as_many : (core : Core) (image : Image) → is_image core image ≡ true → length image.gates ≡ length core.tracks
+pub as_many : (core : Core) (image : Image) → is_image core image ≡ true → length image.gates ≡ length core.tracks
 as_many core image h =
     let test = (both (length image.gates == length core.tracks) (allow_gates core.tracks image.gates) (gates_of_image core image h)).0 in
     grind (arith, nat_tests)
 
-gate_allowed : (core : Core) (image : Image) (k : ℕ) → is_image core image ≡ true → k < length core.tracks →
+pub gate_allowed : (core : Core) (image : Image) (k : ℕ) → is_image core image ≡ true → k < length core.tracks →
     can_be (get_or core.tracks k blank).gate (get_or image.gates k false) ≡ true
 gate_allowed core image k h within =
     in_range (λ j. can_be (get_or core.tracks j blank).gate (get_or image.gates j false)) 0 (length core.tracks) k
     (both (length image.gates == length core.tracks) (allow_gates core.tracks image.gates) (gates_of_image core image h)).1
+    (omega arith) (omega arith)
+
+marks_of_image : (core : Core) (image : Image) → is_image core image ≡ true → marks_agree core.tracks image.marks ≡ true
+marks_of_image core image h =
+    let a = both (is_size core image.size) (agree core.tags image.tags && (bytes_agree core image.bytes && (gates_agree core.tracks image.gates && (marks_agree core.tracks image.marks && can_be (doubt_gate core.doubt) image.doubt)))) h in
+    let b = both (agree core.tags image.tags) (bytes_agree core image.bytes && (gates_agree core.tracks image.gates && (marks_agree core.tracks image.marks && can_be (doubt_gate core.doubt) image.doubt))) a.1 in
+    let c = both (bytes_agree core image.bytes) (gates_agree core.tracks image.gates && (marks_agree core.tracks image.marks && can_be (doubt_gate core.doubt) image.doubt)) b.1 in
+    let d = both (gates_agree core.tracks image.gates) (marks_agree core.tracks image.marks && can_be (doubt_gate core.doubt) image.doubt) c.1 in
+    (both (marks_agree core.tracks image.marks) (can_be (doubt_gate core.doubt) image.doubt) d.1).0
+
+pub as_many_marks : (core : Core) (image : Image) → is_image core image ≡ true → length image.marks ≡ length core.tracks
+as_many_marks core image h =
+    let test = (both (length image.marks == length core.tracks) (allow_marks core.tracks image.marks) (marks_of_image core image h)).0 in
+    grind (arith, nat_tests)
+
+pub mark_allowed : (core : Core) (image : Image) (k : ℕ) → is_image core image ≡ true → k < length core.tracks →
+    can_be (get_or core.tracks k blank).mark (get_or image.marks k false) ≡ true
+mark_allowed core image k h within =
+    in_range (λ j. can_be (get_or core.tracks j blank).mark (get_or image.marks j false)) 0 (length core.tracks) k
+    (both (length image.marks == length core.tracks) (allow_marks core.tracks image.marks) (marks_of_image core image h)).1
     (omega arith) (omega arith)
 
 closed_stays : (g : Flag) (b : Bool) → is_off g ≡ true → can_be g b ≡ true → is_off (flag_of b) ≡ true
@@ -287,7 +307,7 @@ closed_no Off off may_be = cc
 closed_no On off may_be = cc
 closed_no Unsure off may_be = cc
 
-and_true : (a b : Bool) → a ≡ true → b ≡ true → (a && b) ≡ true
+pub and_true : (a b : Bool) → a ≡ true → b ≡ true → (a && b) ≡ true
 and_true true b h k = k
 and_true false b h k = cc
 
@@ -365,9 +385,9 @@ gates-rise core image ordered h = rise_with core image core.doubt image.doubt or
 
 -- ---- each event keeps the order
 
-ordered_write : (core : Core) (place block : ℕ) (left : Option (List ℕ)) → may_write core place block left ≡ true → has_block (track core.tracks place).state block ≡ true
-ordered_write core place block None h = (both (nat_lt block BLOCKS) (has_block (track core.tracks place).state block) h).1
-ordered_write core place block (Some left) h =
+pub writes : (core : Core) (place block : ℕ) (left : Option (List ℕ)) → may_write core place block left ≡ true → has_block (track core.tracks place).state block ≡ true
+writes core place block None h = (both (nat_lt block BLOCKS) (has_block (track core.tracks place).state block) h).1
+writes core place block (Some left) h =
     let a = both (may_flush core place block) (length left == end_in (track core.tracks place).span block - start_in (track core.tracks place).span block) h in
     (both (nat_lt block BLOCKS) (has_block (track core.tracks place).state block) a.0).1
 
@@ -377,10 +397,10 @@ put_state_of core place block state ordered h =
 
 written_ordered : (core : Core) (place block : ℕ) (left : Option (List ℕ)) → IsOrdered core → may_write core place block left ≡ true → IsOrdered (block_written core place block left)
 written_ordered core place block None ordered h =
-    let o = put_state_of core place block (state_written block true (track core.tracks place).state) ordered (ordered_write core place block None h) in
+    let o = put_state_of core place block (state_written block true (track core.tracks place).state) ordered (writes core place block None h) in
     record { places = o.places; same = o.same; behind = o.behind }
 written_ordered core place block (Some left) ordered h =
-    let o = put_state_of core place block (state_written block false (track core.tracks place).state) ordered (ordered_write core place block (Some left) h) in
+    let o = put_state_of core place block (state_written block false (track core.tracks place).state) ordered (writes core place block (Some left) h) in
     record { places = o.places; same = o.same; behind = o.behind }
 
 flushed_ordered : (core : Core) (place block : ℕ) (ok : Bool) → IsOrdered core → may_flush core place block ≡ true → IsOrdered (flushed core place block ok)
@@ -408,11 +428,11 @@ served_ordered core place ordered h =
     (λ query. and_true _ _ (both (is_off (track core.tracks place).gate) (is_query_state (track core.tracks place).state) query).0 refl)
     (some_place is_unserved refl core.tracks place h)
 
-first_of_and : (a b : Bool) → (a && b) ≡ true → a ≡ true
+pub first_of_and : (a b : Bool) → (a && b) ≡ true → a ≡ true
 first_of_and true b h = refl
 first_of_and false b h = cc
 
-serves : (core : Core) (place : ℕ) (answer : Option (List ℕ)) → may_serve core place answer ≡ true → is_unserved (track core.tracks place).state ≡ true
+pub serves : (core : Core) (place : ℕ) (answer : Option (List ℕ)) → may_serve core place answer ≡ true → is_unserved (track core.tracks place).state ≡ true
 serves core place None h = h
 serves core place (Some bytes) h = first_of_and (is_unserved (track core.tracks place).state) _ h
 

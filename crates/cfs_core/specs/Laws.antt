@@ -1,12 +1,14 @@
 -- What holds of every run.
-use Rattle.std.specs.Prelude.{◌≡◌, ℕ, ◌+◌, ◌≤◌, true, false, List, [], ◌∷◌, map}
+use Rattle.std.specs.Prelude.{◌≡◌, ℕ, ◌+◌, ◌<◌, ◌≤◌, true, false, List, [], ◌∷◌, map}
 use Rattle.std.specs.List.{list_all, list_any}
 use Rattle.cfs_file.specs.Log.{IsLegal}
+use Rattle.cfs_file.specs.Span.{meets, reaches_over}
 use Rattle.cfs_core.specs.declared.event.Event.{Event}
 use Rattle.cfs_core.specs.declared.inode_core.Core.{Core}
 use Rattle.cfs_core.specs.declared.image.Image.{Image}
+use Rattle.cfs_core.specs.Words.{is_live, is_off, is_out, track}
 use Rattle.cfs_core.specs.Fresh.{IsEmpty}
-use Rattle.cfs_core.specs.Medium.{is_image, live_entries}
+use Rattle.cfs_core.specs.Medium.{bit_at, is_image, is_open, live_entries}
 use Rattle.cfs_core.specs.May.{may}
 use Rattle.cfs_core.specs.Within.{within}
 use Rattle.cfs_core.specs.Run.{IsRun, after_all, is_mount}
@@ -33,3 +35,37 @@ GatesRise =
     (core : Core) (events : List Event) (image : Image) → IsEmpty core → IsRun core events →
     is_image (after_all core events) image ≡ true →
     Rises 0 (map (λ e. e.place) (live_entries (after_all core events) image))
+
+-- In every image of every run, an entry whose gate is open and whose mark is not set is live.
+abbrev pub OnlyLiveAreOpen : Type 0
+OnlyLiveAreOpen =
+    (core : Core) (events : List Event) (image : Image) → IsEmpty core → IsRun core events →
+    is_image (after_all core events) image ≡ true →
+    (place : ℕ) → is_open image place ≡ true → is_live (track (after_all core events).tracks place).state ≡ true
+
+-- In every run, a job works on no position of an earlier live entry. So two jobs that are out have no
+-- position in common.
+abbrev pub JobsAreApart : Type 0
+JobsAreApart =
+    (core : Core) (events : List Event) → IsEmpty core → IsRun core events →
+    (earlier later : ℕ) → earlier < later →
+    is_live (track (after_all core events).tracks earlier).state ≡ true →
+    is_out (track (after_all core events).tracks later).state ≡ true →
+    meets (track (after_all core events).tracks earlier).span (track (after_all core events).tracks later).span ≡ false
+
+-- In every image of every run, an entry whose mark is set is covered by a later one.
+abbrev pub MarkedAreCovered : Type 0
+MarkedAreCovered =
+    (core : Core) (events : List Event) (image : Image) → IsEmpty core → IsRun core events →
+    is_image (after_all core events) image ≡ true →
+    (place : ℕ) → bit_at image.marks place ≡ true →
+    (by : ℕ) × ((place < by) × (reaches_over (track (after_all core events).tracks by).span (track (after_all core events).tracks place).span ≡ true))
+
+-- In every image of every run, a live entry is open, unless it is applied or a mark of it was tried.
+abbrev pub LiveAreOpen : Type 0
+LiveAreOpen =
+    (core : Core) (events : List Event) (image : Image) → IsEmpty core → IsRun core events →
+    is_image (after_all core events) image ≡ true →
+    (place : ℕ) → is_live (track (after_all core events).tracks place).state ≡ true →
+    (track (after_all core events).tracks place).applied ≡ false → is_off (track (after_all core events).tracks place).mark ≡ true →
+    is_open image place ≡ true
