@@ -1,7 +1,7 @@
 #!/usr/bin/env python3
 """Times `crossfs play` over scripts of growing length, in nanoseconds a line.
 
-Build the program first (`rt run crossfs -- play d < crates/crossfs/stdin`, or `rt ci`), then run
+Build the program first (`rt ci` does, and `rt run` in crates/crossfs), then run
 `bench/play.py [PROGRAM]`. Each script is played five times; the least time counts.
 """
 import os

@@ -4,7 +4,7 @@
 `cfs_bench N` stages, opens and closes N requests of 4096 bytes. Two counts are timed, and the
 difference is divided by the difference of the counts, so that starting the program does not count. The
 C loop copies the same 4096 bytes twice a request, since a region keeps a durable and a present copy.
-Build the program first (`rt run cfs_bench -- 10`, or `rt ci`), then run `bench/slots.py [PROGRAM]`.
+Build the program first (`rt ci` does, and `rt run -- 10` in crates/cfs_bench), then run `bench/slots.py [PROGRAM]`.
 """
 import os
 import subprocess
