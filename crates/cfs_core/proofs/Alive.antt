@@ -20,7 +20,7 @@ use Rattle.cfs_core.specs.declared.event.SizeEnd.{SizeEnd}
 use Rattle.cfs_core.specs.declared.event.SizeEnd.TheVariants as sizes
 use Rattle.cfs_core.specs.declared.inode_core.Core.{Core}
 use Rattle.cfs_core.specs.Words.{blank, can_be, flag_of, has_block, is_live, is_off, is_on, is_out, is_unserved, is_waiting, sized, track}
-use Rattle.cfs_core.specs.Fresh.{IsEmpty}
+use Rattle.cfs_core.specs.Fresh.{IsFresh}
 use Rattle.cfs_core.specs.Jobs.{next_job, state_flushed, state_written}
 use Rattle.cfs_core.specs.Medium.{bit_at, is_image, is_open}
 use Rattle.cfs_core.specs.May.{case, ends_well, is_in_phase, may_finish, may_write, span_now}
@@ -257,7 +257,7 @@ sound-run core (event ∷ list) o run =
     let allowed = both (is_in_phase core.crashed event) (case core event) run.0 in
     sound-run (after core event) list (sound-after core event o allowed.1) run.1
 
-pub sound-empty : (core : Core) → IsEmpty core → AreSound core
+pub sound-empty : (core : Core) → IsFresh core → AreSound core
 sound-empty core empty k = rw empty.tracks refl
 
 -- ---- what an image has

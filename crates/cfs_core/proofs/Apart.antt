@@ -20,7 +20,7 @@ use Rattle.cfs_core.specs.declared.event.SizeEnd.{SizeEnd}
 use Rattle.cfs_core.specs.declared.event.SizeEnd.TheVariants as sizes
 use Rattle.cfs_core.specs.declared.inode_core.Core.{Core}
 use Rattle.cfs_core.specs.Words.{blank, has_block, is_live, is_noop, is_out, is_unserved, is_waiting, sized, track}
-use Rattle.cfs_core.specs.Fresh.{IsEmpty}
+use Rattle.cfs_core.specs.Fresh.{IsFresh}
 use Rattle.cfs_core.specs.Jobs.{next_job, state_flushed, state_written}
 use Rattle.cfs_core.specs.May.{case, is_in_phase, may_dispatch, meets_live, span_now}
 use Rattle.cfs_core.specs.After.{admitted, after, block_written, change_track, crashed_to, finished, flushed, logged, marked, more_to_come, put_back, query_track, retired, sure_track, sure_tracks, with_size, with_state, with_track}
@@ -266,7 +266,7 @@ apart-run core (event ∷ list) o run =
     let allowed = both (is_in_phase core.crashed event) (case core event) run.0 in
     apart-run (after core event) list (apart-after core event o allowed.1) run.1
 
-pub apart-empty : (core : Core) → IsEmpty core → AreApart core
+pub apart-empty : (core : Core) → IsFresh core → AreApart core
 apart-empty core empty i j less live busy = let none : is_live (get_or [] i blank).state ≡ true = rw empty.tracks at live in cc
 
 -- at places, from 1

@@ -19,7 +19,7 @@ use Rattle.cfs_core.specs.declared.event.SizeEnd.{SizeEnd}
 use Rattle.cfs_core.specs.declared.event.SizeEnd.TheVariants as sizes
 use Rattle.cfs_core.specs.declared.inode_core.Core.{Core}
 use Rattle.cfs_core.specs.Words.{blank, can_be, flag_of, has_block, is_live, is_noop, is_off, is_out, is_unserved, is_waiting, sized, track}
-use Rattle.cfs_core.specs.Fresh.{IsEmpty}
+use Rattle.cfs_core.specs.Fresh.{IsFresh}
 use Rattle.cfs_core.specs.Jobs.{next_job, state_flushed, state_written}
 use Rattle.cfs_core.specs.Medium.{bit_at, is_image}
 use Rattle.cfs_core.specs.May.{case, is_in_phase, may_mark, needed_between, span_now}
@@ -215,7 +215,7 @@ covered-run core (event ∷ list) o run =
     let allowed = both (is_in_phase core.crashed event) (case core event) run.0 in
     covered-run (after core event) list (covered-after core event o allowed.1) run.1
 
-pub covered-empty : (core : Core) → IsEmpty core → AreCovered core
+pub covered-empty : (core : Core) → IsFresh core → AreCovered core
 covered-empty core empty i off = let own : is_off (get_or [] i blank).mark ≡ false = rw empty.tracks at off in cc
 
 set_unsure : (f : Flag) → can_be f true ≡ true → is_off f ≡ false

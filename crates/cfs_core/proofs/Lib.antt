@@ -1,6 +1,7 @@
 pub mod Alive
 pub mod Apart
 pub mod Covered
+pub mod Kept
 pub mod Legal
 pub mod Moments
 pub mod Order

@@ -1,5 +1,5 @@
 -- The gates of an image's live entries rise: the logged ones in order of place, and the doubt last.
-use Rattle.std.proofs.Common.{◌≡◌, ◌⊎◌, inl, inr, ℕ, suc, zero, ◌+◌, ◌-◌, ◌<◌, ◌≤◌, ◌==◌, Bool, true, false, ◌&&◌, ◌||◌, not, cond, Option, Some, None, List, [], ◌∷◌, ◌++◌, length, map, filter, get_or, set, arith, refl, sym, ◌∙◌, length-append, length-set, get_or-set_other, is_none, nat_lt}
+use Rattle.std.proofs.Common.{◌≡◌, ◌⊎◌, inl, inr, ℕ, suc, zero, ◌+◌, ◌-◌, ◌<◌, ◌≤◌, ◌==◌, Bool, true, false, ◌&&◌, ◌||◌, not, cond, Option, Some, None, List, [], ◌∷◌, ◌++◌, length, map, filter, get_or, set, arith, refl, sym, ap, ◌∙◌, length-append, length-set, get_or-set_other, is_none, nat_lt}
 use Rattle.std.specs.List.{list_all, range_with_len}
 use Rattle.std.proofs.lemmas.Bool.{cases_lt}
 use Rattle.std.proofs.lemmas.Bool.Decides.{nat_tests}
@@ -24,13 +24,13 @@ use Rattle.cfs_core.specs.declared.event.End.{End}
 use Rattle.cfs_core.specs.declared.event.End.TheVariants as ends
 use Rattle.cfs_core.specs.declared.event.SizeEnd.{SizeEnd}
 use Rattle.cfs_core.specs.declared.event.SizeEnd.TheVariants as sizes
-use Rattle.cfs_core.specs.Fresh.{IsEmpty}
+use Rattle.cfs_core.specs.Fresh.{IsFresh}
 use Rattle.cfs_core.specs.Jobs.{state_flushed, state_written}
-use Rattle.cfs_core.specs.Medium.{agree, allow_gates, allow_marks, bit_at, bytes_agree, doubt_gate, file, gates_agree, in_doubt, is_image, is_open, is_size, live_entries, marks_agree}
+use Rattle.cfs_core.specs.Medium.{agree, allow_gates, allow_marks, bit_at, bytes_agree, doubt_gate, file, gates_agree, is_image, is_open, is_size, live_entries, marks_agree, open_entries, placed_doubt, placed_entry}
 use Rattle.cfs_core.specs.Run.{IsRun, after_all}
 use Rattle.cfs_core.specs.May.{case, fits, is_change, is_in_phase, is_mapped, is_next, may_admit, may_flush, may_serve, may_write, span_now}
 use Rattle.cfs_core.specs.After.{admitted, after, block_written, change_track, crashed_to, finished, flushed, logged, marked, mounted, query_track, sure_doubt, sure_track, sure_tracks, with_size, with_state, with_track}
-use Rattle.cfs_core.specs.Laws.{Rises}
+use Rattle.cfs_core.specs.Good.{Rises}
 use Rattle.cfs_core.proofs.Legal.{both}
 
 -- the entries have the places from that number on
@@ -370,14 +370,22 @@ open_before core image d ordered is h m opened = elim (cases_lt m d.entry.place)
           ]
     ]
 
+-- an entry keeps its place in its slot
+placed_places : (tracks : List Track) (entries : List Entry) →
+    map (λ e. e.place) (map (λ e. placed_entry (track tracks e.place).span e) entries) ≡ map (λ e. e.place) entries
+placed_places tracks [] = refl
+placed_places tracks (e ∷ es) = ap (λ (ns : List ℕ). e.place ∷ ns) (placed_places tracks es)
+
 rise_with : (core : Core) (image : Image) (o : Option Doubt) (gate : Bool) → IsOrdered core → is_image core image ≡ true → core.doubt ≡ o →
-    Rises 0 (map (λ e. e.place) (filter (λ e. is_open image e.place) core.log ++ in_doubt o gate))
+    Rises 0 (map (λ e. e.place) (open_entries core.tracks image core.log ++ placed_doubt o gate))
 rise_with core image None gate ordered h is =
-    rw (append-nil (filter (λ e. is_open image e.place) core.log)) (Rises-picked 0 1 core.log (is_open image) (omega arith) ordered.places)
+    rw (append-nil (open_entries core.tracks image core.log), placed_places core.tracks (filter (λ e. is_open image e.place) core.log))
+    (Rises-picked 0 1 core.log (is_open image) (omega arith) ordered.places)
 rise_with core image (Some d) false ordered h is =
-    rw (append-nil (filter (λ e. is_open image e.place) core.log)) (Rises-picked 0 1 core.log (is_open image) (omega arith) ordered.places)
+    rw (append-nil (open_entries core.tracks image core.log), placed_places core.tracks (filter (λ e. is_open image e.place) core.log))
+    (Rises-picked 0 1 core.log (is_open image) (omega arith) ordered.places)
 rise_with core image (Some d) true ordered h is =
-    rw (map-append (λ e. e.place) (filter (λ e. is_open image e.place) core.log) (d.entry ∷ []))
+    rw (map-append (λ e. e.place) (open_entries core.tracks image core.log) (placed_entry d.span d.entry ∷ []), placed_places core.tracks (filter (λ e. is_open image e.place) core.log))
     (Rises-picked_then 0 1 core.log (is_open image) d.entry.place (omega arith) (omega arith) ordered.places (open_before core image d ordered is h))
 
 pub gates-rise : (core : Core) (image : Image) → IsOrdered core → is_image core image ≡ true → Rises 0 (map (λ e. e.place) (live_entries core image))
@@ -460,7 +468,7 @@ ordered-run core (event ∷ list) o run =
     let allowed = both (is_in_phase core.crashed event) (case core event) run.0 in
     ordered-run (after core event) list (ordered-after core event o allowed.1) run.1
 
-pub ordered-empty : (core : Core) → IsEmpty core → IsOrdered core
+pub ordered-empty : (core : Core) → IsFresh core → IsOrdered core
 ordered-empty core empty = record {
   places = rw empty.log tt;
   same = rw (empty.log, empty.tracks) refl;

@@ -7,9 +7,10 @@ use Rattle.cfs_core.specs.declared.event.Event.{Event}
 use Rattle.cfs_core.specs.declared.inode_core.Core.{Core}
 use Rattle.cfs_core.specs.declared.image.Image.{Image}
 use Rattle.cfs_core.specs.Words.{is_live, is_off, is_out, track}
-use Rattle.cfs_core.specs.Fresh.{IsEmpty}
+use Rattle.cfs_core.specs.Fresh.{IsFresh}
 use Rattle.cfs_core.specs.Medium.{bit_at, is_image, is_open, live_entries}
 use Rattle.cfs_core.specs.May.{may}
+use Rattle.cfs_core.specs.Good.{IsGood, Rises}
 use Rattle.cfs_core.specs.Within.{within}
 use Rattle.cfs_core.specs.Run.{IsRun, after_all, is_mount}
 
@@ -23,23 +24,18 @@ LogsStayLegal =
 abbrev pub MomentsMayCome : Type 0
 MomentsMayCome = (core : Core) (event : Event) → may core event ≡ true → list_all (may core) (within core event) ≡ true
 
--- from this number on, each one is greater than the one before
-abbrev pub Rises : ℕ → List ℕ → Type 0
-Rises low [] = Unit {0}
-Rises low (n ∷ ns) = (low ≤ n) × Rises (n + 1) ns
-
 -- The live entries of every image of every run stand in the order of the numbers in their gates: those
 -- of the log by place, and the request in doubt last.
 abbrev pub GatesRise : Type 0
 GatesRise =
-    (core : Core) (events : List Event) (image : Image) → IsEmpty core → IsRun core events →
+    (core : Core) (events : List Event) (image : Image) → IsFresh core → IsRun core events →
     is_image (after_all core events) image ≡ true →
     Rises 0 (map (λ e. e.place) (live_entries (after_all core events) image))
 
 -- In every image of every run, an entry whose gate is open and whose mark is not set is live.
 abbrev pub OnlyLiveAreOpen : Type 0
 OnlyLiveAreOpen =
-    (core : Core) (events : List Event) (image : Image) → IsEmpty core → IsRun core events →
+    (core : Core) (events : List Event) (image : Image) → IsFresh core → IsRun core events →
     is_image (after_all core events) image ≡ true →
     (place : ℕ) → is_open image place ≡ true → is_live (track (after_all core events).tracks place).state ≡ true
 
@@ -47,7 +43,7 @@ OnlyLiveAreOpen =
 -- position in common.
 abbrev pub JobsAreApart : Type 0
 JobsAreApart =
-    (core : Core) (events : List Event) → IsEmpty core → IsRun core events →
+    (core : Core) (events : List Event) → IsFresh core → IsRun core events →
     (earlier later : ℕ) → earlier < later →
     is_live (track (after_all core events).tracks earlier).state ≡ true →
     is_out (track (after_all core events).tracks later).state ≡ true →
@@ -56,7 +52,7 @@ JobsAreApart =
 -- In every image of every run, an entry whose mark is set is covered by a later one.
 abbrev pub MarkedAreCovered : Type 0
 MarkedAreCovered =
-    (core : Core) (events : List Event) (image : Image) → IsEmpty core → IsRun core events →
+    (core : Core) (events : List Event) (image : Image) → IsFresh core → IsRun core events →
     is_image (after_all core events) image ≡ true →
     (place : ℕ) → bit_at image.marks place ≡ true →
     (by : ℕ) × ((place < by) × (reaches_over (track (after_all core events).tracks by).span (track (after_all core events).tracks place).span ≡ true))
@@ -64,8 +60,12 @@ MarkedAreCovered =
 -- In every image of every run, a live entry is open, unless it is applied or a mark of it was tried.
 abbrev pub LiveAreOpen : Type 0
 LiveAreOpen =
-    (core : Core) (events : List Event) (image : Image) → IsEmpty core → IsRun core events →
+    (core : Core) (events : List Event) (image : Image) → IsFresh core → IsRun core events →
     is_image (after_all core events) image ≡ true →
     (place : ℕ) → is_live (track (after_all core events).tracks place).state ≡ true →
     (track (after_all core events).tracks place).applied ≡ false → is_off (track (after_all core events).tracks place).mark ≡ true →
     is_open image place ≡ true
+
+-- after each event of every run of a fresh core, mounts included
+abbrev pub RunsAreGood : Type 0
+RunsAreGood = (core : Core) (events : List Event) → IsFresh core → IsRun core events → IsGood (after_all core events)

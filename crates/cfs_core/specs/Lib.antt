@@ -2,6 +2,7 @@ pub mod Words
 pub mod Jobs
 pub mod Medium
 pub mod Fresh
+pub mod Good
 pub mod May
 pub mod After
 pub mod Within

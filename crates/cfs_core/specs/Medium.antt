@@ -2,6 +2,8 @@
 use Rattle.std.specs.Prelude.{ℕ, ◌-◌, ◌/◌, ◌==◌, Bool, true, false, not, ◌&&◌, ◌||◌, if◌then◌else◌, Option, Some, None, List, [], ◌∷◌, ◌++◌, length, map, filter, get_or, nat_lt, nat_le}
 use Rattle.std.specs.List.{list_any, list_all, range_with_len}
 use Rattle.cfs_file.specs.declared.entry.Entry.{Entry}
+use Rattle.cfs_file.specs.declared.request.Request.{Request}
+use Rattle.cfs_file.specs.declared.request.Request.TheVariants as requests
 use Rattle.cfs_file.specs.declared.span.Span.{Span}
 use Rattle.cfs_file.specs.Log.{file_of}
 use Rattle.cfs_core.specs.declared.block.TheConstants.{BLOCK}
@@ -12,7 +14,7 @@ use Rattle.cfs_core.specs.declared.doubt.Doubt.{Doubt}
 use Rattle.cfs_core.specs.declared.stretch.Stretch.{Stretch}
 use Rattle.cfs_core.specs.declared.image.Image.{Image}
 use Rattle.cfs_core.specs.declared.inode_core.Core.{Core}
-use Rattle.cfs_core.specs.Words.{blank, byte_at, can_be, is_off, is_on, positions}
+use Rattle.cfs_core.specs.Words.{blank, byte_at, can_be, is_off, is_on, positions, start_of, track}
 
 -- the file after the log
 abbrev pub file : Core → List ℕ
@@ -123,10 +125,31 @@ in_doubt None gate = []
 in_doubt (Some doubt) true = doubt.entry ∷ []
 in_doubt (Some doubt) false = []
 
+-- what the slot holds of a request with that span: of an append, a write at the offset that it was given
+abbrev pub placed : Span → Request → Request
+placed span (requests.Write offset bytes) = requests.Write offset bytes
+placed span (requests.Append bytes) = requests.Write (start_of span) bytes
+placed span (requests.Truncate n) = requests.Truncate n
+placed span (requests.Read offset count) = requests.Read offset count
+placed span requests.Sync = requests.Sync
+
+abbrev pub placed_entry : Span → Entry → Entry
+placed_entry span entry = record entry { request = placed span entry.request }
+
+abbrev pub placed_doubt : Option Doubt → Bool → List Entry
+placed_doubt None gate = []
+placed_doubt (Some doubt) true = placed_entry doubt.span doubt.entry ∷ []
+placed_doubt (Some doubt) false = []
+
+-- the entries of the log whose gates are open, as their slots hold them
+abbrev pub open_entries : List Track → Image → List Entry → List Entry
+open_entries tracks image log =
+    map (λ e. placed_entry (track tracks e.place).span e) (filter (λ e. is_open image e.place) log)
+
 -- The live entries of an image: those of the log in order of place, which is the number in their gates,
 -- and then the request in doubt where its gate is open.
 abbrev pub live_entries : Core → Image → List Entry
-live_entries core image = filter (λ e. is_open image e.place) core.log ++ in_doubt core.doubt image.doubt
+live_entries core image = open_entries core.tracks image core.log ++ placed_doubt core.doubt image.doubt
 
 -- the recovered file: the stored file, taken through the live entries
 abbrev pub recovered : Core → Image → List ℕ

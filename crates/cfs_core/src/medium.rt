@@ -1,16 +1,17 @@
 //! What a crash may leave of a core's part of the medium, and the file that a mount finds in it.
 
-ghost use Rattle.std.specs.Prelude.{◌≡◌, ◌==◌, get_or, filter, map, false, IfOk, OnOk};
+ghost use Rattle.std.specs.Prelude.{◌≡◌, ◌==◌, get_or, map, false, IfOk, OnOk};
+ghost use Rattle.cfs_file.specs.File.{effect};
 ghost use Rattle.cfs_file.specs.Log.{file_of};
 ghost use Rattle.cfs_core.specs.Words.{is_on};
 ghost use Rattle.std.specs.List.{list_any};
-ghost use Rattle.cfs_core.specs.Medium.{agree, allow_bits, allow_gates, allow_marks, are_bytes, bit_at, bytes_agree, doubt_gate, gates_agree, image_now, in_doubt, is_image, is_loose, is_open, is_size, marks_agree, reads, recovered, rests, rests_as, stands, stored, stored_byte};
+ghost use Rattle.cfs_core.specs.Medium.{agree, allow_bits, allow_gates, allow_marks, are_bytes, bit_at, bytes_agree, doubt_gate, gates_agree, image_now, is_image, is_loose, is_open, is_size, marks_agree, open_entries, placed, placed_doubt, reads, recovered, rests, rests_as, stands, stored, stored_byte};
 
 use crate::jobs::tag_of;
 use crate::spans::{byte_at, byte_or_zero, end_of, start_of};
-use crate::track::track_at;
+use crate::track::{track_at, track_of};
 use crate::{BLOCK, Core, Doubt, Flag, Image, Items, Stretch, Track};
-use cfs_file::{Bytes, Entry, NoMemory, Span, apply};
+use cfs_file::{Bytes, Entry, NoMemory, Request, Span, apply};
 use std::alloc::{AllocError, Global};
 
 /// An image may have any byte at the position.
@@ -239,18 +240,41 @@ pub fn recovered_file(alloc: Global, core: &Core, image: &Image) -> Result<Bytes
     ensures { IfOk result (λ file. file ≡ recovered core.now image.now) }
 {
     let mut file = stored_file(alloc, image)?;
-    apply_open(&mut file, core.log.as_slice(), image)?;
+    apply_open(
+        &mut file,
+        core.log.as_slice(),
+        core.tracks.as_slice(),
+        image,
+    )?;
     apply_doubt(&mut file, &core.doubt, image.doubt)?;
     Ok(file)
 }
 
+/// Takes the file through a request as its slot holds it: an append is a write where its span begins.
+fn apply_placed(file: &mut Bytes, request: &Request, span: Span) -> Result<(), NoMemory>
+    ensures { OnOk result (file.new ≡ effect file.old (placed span request.now)) }
+{
+    match request {
+        Request::Append { bytes } => file.put(start_of(span), bytes.as_slice()),
+        Request::Write { .. }
+        | Request::Truncate { .. }
+        | Request::Read { .. }
+        | Request::Sync => apply(file, request),
+    }
+}
+
 /// Takes the file through the entries whose gates are open.
-fn apply_open(file: &mut Bytes, log: &[Entry], image: &Image) -> Result<(), NoMemory>
-    ensures { OnOk result (file.new ≡ file_of file.old (filter (λ e. is_open image.now e.place) log.now)) }
+fn apply_open(
+    file: &mut Bytes,
+    log: &[Entry],
+    tracks: &[Track],
+    image: &Image,
+) -> Result<(), NoMemory>
+    ensures { OnOk result (file.new ≡ file_of file.old (open_entries tracks.now image.now log.now)) }
 {
     for entry in log {
         if is_open(image, entry.place) {
-            apply(file, &entry.request)?;
+            apply_placed(file, &entry.request, track_of(tracks, entry.place).span)?;
         }
     }
     Ok(())
@@ -258,12 +282,12 @@ fn apply_open(file: &mut Bytes, log: &[Entry], image: &Image) -> Result<(), NoMe
 
 /// Takes the file through the request in doubt, where its gate is open.
 fn apply_doubt(file: &mut Bytes, doubt: &Option<Doubt>, gate: bool) -> Result<(), NoMemory>
-    ensures { OnOk result (file.new ≡ file_of file.old (in_doubt doubt.now gate)) }
+    ensures { OnOk result (file.new ≡ file_of file.old (placed_doubt doubt.now gate)) }
 {
     match doubt {
         Some(doubt) => {
             if gate {
-                apply(file, &doubt.entry.request)?;
+                apply_placed(file, &doubt.entry.request, doubt.span)?;
             }
             Ok(())
         }
