@@ -5,5 +5,6 @@ pub mod Kept
 pub mod Legal
 pub mod Moments
 pub mod Order
+pub mod Registers
 pub mod Runs
 pub mod Sizes
