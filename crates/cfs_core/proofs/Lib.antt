@@ -7,3 +7,4 @@ pub mod Moments
 pub mod Order
 pub mod Runs
 pub mod Sizes
+pub mod StoredFrames
