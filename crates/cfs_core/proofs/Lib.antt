@@ -8,3 +8,4 @@ pub mod Order
 pub mod Registers
 pub mod Runs
 pub mod Sizes
+pub mod StoredFrames
