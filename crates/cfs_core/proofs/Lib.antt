@@ -1,6 +1,7 @@
 pub mod Alive
 pub mod Apart
 pub mod Covered
+pub mod Images
 pub mod Kept
 pub mod Legal
 pub mod Moments
