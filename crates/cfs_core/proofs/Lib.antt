@@ -6,6 +6,7 @@ pub mod Kept
 pub mod Legal
 pub mod Moments
 pub mod Order
+pub mod Recovers
 pub mod Registers
 pub mod Runs
 pub mod Sizes

@@ -61,7 +61,7 @@ holds-or-not (Range from to) p = elim (cases_lt p from) [
 ]
 holds-or-not (From from) p = elim (cases_lt p from) [ inl before ↦ inr (λ h. omega arith) | inr up ↦ inl up ]
 
-settled : (o : Option Bool) → ((b : Bool) × (o ≡ Some b)) ⊎ (((b : Bool) × (o ≡ Some b)) → ⊥)
+pub settled : (o : Option Bool) → ((b : Bool) × (o ≡ Some b)) ⊎ (((b : Bool) × (o ≡ Some b)) → ⊥)
 settled None = inr (λ s. let is : None ≡ Some s.0 = s.1 in cc)
 settled (Some b) = inl (b, refl)
 
