@@ -17,13 +17,13 @@ use Rattle.cfs_core.specs.declared.doubt.Doubt.{Doubt}
 use Rattle.cfs_core.specs.declared.image.Image.{Image}
 use Rattle.cfs_core.specs.declared.inode_core.Core.{Core}
 use Rattle.cfs_core.specs.Words.{byte_at, is_live, is_off, payload, payload_of, sized, track}
-use Rattle.cfs_core.specs.Medium.{file, in_doubt, is_image, is_open, live_entries, open_entries, placed_doubt, placed_entry, recovered, stored}
-use Rattle.cfs_core.proofs.Alive.{AreSound}
+use Rattle.cfs_core.specs.Medium.{file, in_doubt, is_image, is_open, open_entries, placed, placed_doubt, placed_entry, recovered, stored}
+use Rattle.cfs_core.specs.May.{is_change}
 use Rattle.cfs_core.proofs.Apart.{AreApart, is_busy}
 use Rattle.cfs_core.proofs.Images.{at-next, length-stored, live-opens, opens, opens-live, rests-read, size-allowed}
-use Rattle.cfs_core.proofs.Kept.{Alters, IsChange, IsDoubtful, IsFree, IsKept, IsLast, IsLive, IsLogged, at, byte_of, decides, file_at}
+use Rattle.cfs_core.proofs.Kept.{Alters, IsChange, IsDoubtful, IsFree, IsKept, IsLast, IsLive, IsLogged, at, byte_of, decides, file_at, is_changing}
 use Rattle.cfs_core.proofs.Moments.{or_right}
-use Rattle.cfs_core.proofs.Registers.{IsFull, Settles, change-effect, change-entry, change-full, change-within, clash, effect_by, file_at-all, file_at-last, find, find-decider, holds-or-not, longer-last, made, made-last, made-longer_last, made-longer_none, made-none, placed-effect, same-bits, settled, step, take-next, unsettled}
+use Rattle.cfs_core.proofs.Registers.{IsFull, Settles, an-entry-at, change-effect, change-full, change-within, clash, effect_by, file_at-all, file_at-last, find, find-decider, holds-or-not, longer-last, made, made-last, made-longer_last, made-longer_none, made-none, placed-effect, same-bits, settled, step, take-next, unsettled}
 
 -- ---- spans
 
@@ -210,8 +210,6 @@ no-later core kept p l b last q j up holds less within alters =
 file-longer : (core : Core) → IsKept core → (p l : ℕ) (b : Bool) → IsLastLive core p l b → nat_lt p (length (file_at core (length core.log))) ≡ b
 file-longer core kept p l b last = elim (find-decider core (length core.log) p) [
   | inl some ↦
-      let m : ℕ = some.0 in
-      let way : Bool = some.1.0 in
       let longer = longer-last core kept.logged kept.ordered (length core.log) p some.0 some.1.0 (omega arith) some.1.1 in
       elim (cases_lt some.0 l) [
         | inl before ↦ absurd (none-some (decides p (at core l).span) b (some.1.1.3 l before (live-within core kept.logged l last.0) (kept.logged.live_changes l last.0)) last.1)
@@ -309,3 +307,74 @@ found-longer core kept image h p = elim (find (λ k. IsLive core k × Settles (a
 pub found-file : (core : Core) → IsKept core → (image : Image) → is_image core image ≡ true → found core image ≡ file core
 found-file core kept image h =
     same-bits (found core image) (file_at core (length core.log)) (found-byte core kept image h) (found-longer core kept image h) ∙ file_at-all core
+
+-- ---- the recovered file
+
+-- an entry as its slot holds it, where it is open
+open-one : (core : Core) (image : Image) (k : ℕ) (entry : Entry) (size : ℕ) (f : List ℕ) → entry.place ≡ k + 1 → slice_get core.log k ≡ Some entry →
+    (at core k).span ≡ span entry.request size → (opens image k ≡ true → is_change entry.request ≡ true) →
+    file_of f (open_entries core.tracks image (entry ∷ [])) ≡ (if opens image k then step core k f else f)
+open-one core image k entry size f place is its change = test (opens image k) refl
+  where
+    its_track : track core.tracks entry.place ≡ at core k
+    its_track = rw place (at-next core k)
+
+    test : (b : Bool) → opens image k ≡ b → file_of f (open_entries core.tracks image (entry ∷ [])) ≡ (if opens image k then step core k f else f)
+    test true opened =
+        let here : is_open image entry.place ≡ true = rw place opened in
+        let left : file_of f (open_entries core.tracks image (entry ∷ [])) ≡ effect f (placed (track core.tracks entry.place).span entry.request) = rw here refl in
+        let does : effect f (placed (at core k).span entry.request) ≡ step core k f = rw (is, its) (placed-effect entry.request f size (change opened)) in
+        let right : step core k f ≡ (if opens image k then step core k f else f) = rw opened refl in
+        left ∙ (ap (λ (t : Track). effect f (placed t.span entry.request)) its_track ∙ (does ∙ right))
+    test false closed =
+        let here : is_open image entry.place ≡ false = rw place closed in
+        let left : file_of f (open_entries core.tracks image (entry ∷ [])) ≡ f = rw here refl in
+        let right : f ≡ (if opens image k then step core k f else f) = rw closed refl in
+        left ∙ right
+
+open-next : (tracks : List Track) (image : Image) (xs : List Entry) (entry : Entry) →
+    open_entries tracks image (xs ++ entry ∷ []) ≡ open_entries tracks image xs ++ open_entries tracks image (entry ∷ [])
+open-next tracks image xs entry =
+    ap (map (λ (e : Entry). placed_entry (track tracks e.place).span e)) (filter-append (λ (e : Entry). is_open image e.place) xs (entry ∷ []))
+    ∙ map-append (λ (e : Entry). placed_entry (track tracks e.place).span e) (filter (λ e. is_open image e.place) xs) (filter (λ e. is_open image e.place) (entry ∷ []))
+
+open-made : (core : Core) → IsKept core → (image : Image) → is_image core image ≡ true → (base : List ℕ) (v : ℕ) → v ≤ length core.log →
+    file_of base (open_entries core.tracks image (take v core.log)) ≡ made core (opens image) base v
+open-made core kept image h base zero within = refl
+open-made core kept image h base (suc k) within =
+    let entry = an-entry-at core.log k (omega arith) in
+    let is : slice_get core.log k ≡ Some entry.0 = entry.1 in
+    let old : file_of base (open_entries core.tracks image (take k core.log)) ≡ made core (opens image) base k = open-made core kept image h base k (omega arith) in
+    let one = open-one core image k entry.0 (length (file_at core k)) (made core (opens image) base k) (kept.legal.places k entry.0 is) is (kept.logged.spans k entry.0 is) (its_change entry.0 is) in
+    let list : open_entries core.tracks image (take (suc k) core.log) ≡ open_entries core.tracks image (take k core.log) ++ open_entries core.tracks image (entry.0 ∷ []) =
+    ap (open_entries core.tracks image) (take-next core.log k entry.0 is) ∙ open-next core.tracks image (take k core.log) entry.0 in
+    ap (file_of base) list
+    ∙ (file_of-append base (open_entries core.tracks image (take k core.log)) (open_entries core.tracks image (entry.0 ∷ []))
+    ∙ (ap (λ (f : List ℕ). file_of f (open_entries core.tracks image (entry.0 ∷ []))) old ∙ one))
+  where
+    its_change : (entry : Entry) → slice_get core.log k ≡ Some entry → opens image k ≡ true → is_change entry.request ≡ true
+    its_change entry is opened =
+        let change : is_changing (slice_get core.log k) ≡ true = kept.logged.live_changes k (opens-live core image kept.sound h k opened) in
+        rw is at change
+
+doubt-same : (core : Core) (o : Option Doubt) (gate : Bool) → ((doubt : Doubt) → o ≡ Some doubt → IsDoubtful core doubt) →
+    file_of (file core) (placed_doubt o gate) ≡ file_of (file core) (in_doubt o gate)
+doubt-same core None gate doubtful = refl
+doubt-same core (Some doubt) false doubtful = refl
+doubt-same core (Some doubt) true doubtful =
+    let d = doubtful doubt refl in
+    let its : doubt.span ≡ span doubt.entry.request (length (file core)) = d.span_is in
+    let placed_so : effect (file core) (placed (span doubt.entry.request (length (file core))) doubt.entry.request) ≡ effect (file core) doubt.entry.request =
+    placed-effect doubt.entry.request (file core) (length (file core)) d.change ∙ sym (change-effect doubt.entry.request (file core) d.change) in
+    ap (λ (s : Span). effect (file core) (placed s doubt.entry.request)) its ∙ placed_so
+
+pub recovers : (core : Core) → IsKept core → (image : Image) → is_image core image ≡ true → recovered core image ≡ file_of core.base (core.log ++ in_doubt core.doubt image.doubt)
+recovers core kept image h =
+    let all : take (length core.log) core.log ≡ core.log = take_all (length core.log) core.log (omega arith) in
+    let opened : file_of (stored image) (open_entries core.tracks image core.log) ≡ found core image =
+    ap (λ (l : List Entry). file_of (stored image) (open_entries core.tracks image l)) (sym all) ∙ open-made core kept image h (stored image) (length core.log) (omega arith) in
+    let whole : file_of (stored image) (open_entries core.tracks image core.log) ≡ file core = opened ∙ found-file core kept image h in
+    file_of-append (stored image) (open_entries core.tracks image core.log) (placed_doubt core.doubt image.doubt)
+    ∙ (ap (λ (f : List ℕ). file_of f (placed_doubt core.doubt image.doubt)) whole
+    ∙ (doubt-same core core.doubt image.doubt kept.logged.doubtful
+    ∙ sym (file_of-append core.base core.log (in_doubt core.doubt image.doubt))))

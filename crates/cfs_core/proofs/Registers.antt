@@ -308,11 +308,16 @@ picked b x y z is same = rw is same
 left_out : {A : Type 0} (b : Bool) (x y z : A) → b ≡ false → z ≡ y → z ≡ (if b then x else y)
 left_out b x y z is same = rw is same
 
+pub an-entry-at : (log : List Entry) (k : ℕ) → k < length log → (entry : Entry) × (slice_get log k ≡ Some entry)
+an-entry-at [] k less = absurd (omega arith)
+an-entry-at (x ∷ xs) zero less = (x, refl)
+an-entry-at (x ∷ xs) (suc k) less = an-entry-at xs k (omega arith)
+
 pub file_at-made : (core : Core) → IsLogged core → (v : ℕ) → v ≤ length core.log → file_at core v ≡ made core (changes core) core.base v
 file_at-made core logged zero within = refl
 file_at-made core logged (suc k) within =
     let is_within : k < length core.log = omega arith in
-    let entry = some_entry core.log k is_within in
+    let entry = an-entry-at core.log k is_within in
     let is : slice_get core.log k ≡ Some entry.0 = entry.1 in
     let before : file_at core k ≡ made core (changes core) core.base k = file_at-made core logged k (omega arith) in
     let whole : file_at core (suc k) ≡ effect (file_at core k) entry.0.request = file_at-next core k entry.0 is in
@@ -328,11 +333,6 @@ file_at-made core logged (suc k) within =
           left_out (changes core k) (step core k (made core (changes core) core.base k)) (made core (changes core) core.base k) (file_at core (suc k)) test
           (whole ∙ (query-effect entry.0.request (file_at core k) query ∙ before))
     ]
-  where
-    some_entry : (log : List Entry) (j : ℕ) → j < length log → (entry : Entry) × (slice_get log j ≡ Some entry)
-    some_entry [] j less = absurd (omega arith)
-    some_entry (x ∷ xs) zero less = (x, refl)
-    some_entry (x ∷ xs) (suc j) less = some_entry xs j (omega arith)
 
 pub file_at-all : (core : Core) → file_at core (length core.log) ≡ file core
 file_at-all core = ap (λ (l : List Entry). file_of core.base l) (take_all (length core.log) core.log (omega arith))
