@@ -3,6 +3,7 @@ pub mod Apart
 pub mod Covered
 pub mod Kept
 pub mod Legal
+pub mod LoggedFrames
 pub mod Moments
 pub mod Order
 pub mod Runs
