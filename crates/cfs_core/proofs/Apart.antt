@@ -150,7 +150,7 @@ live_only : (a b : Bool) → (a && b) ≡ false → a ≡ true → b ≡ false
 live_only true b h is = h
 live_only false b h is = cc
 
-not_true : (b : Bool) → not b ≡ true → b ≡ false
+pub not_true : (b : Bool) → not b ≡ true → b ≡ false
 not_true true h = cc
 not_true false h = refl
 

@@ -4,6 +4,7 @@ pub mod Covered
 pub mod Kept
 pub mod Legal
 pub mod LoggedFrames
+pub mod LoggedPush
 pub mod Moments
 pub mod Order
 pub mod Runs
