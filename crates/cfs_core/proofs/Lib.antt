@@ -3,8 +3,10 @@ pub mod Apart
 pub mod Covered
 pub mod Kept
 pub mod Legal
+pub mod Logged
 pub mod LoggedFrames
 pub mod LoggedPush
+pub mod LoggedTags
 pub mod Moments
 pub mod Order
 pub mod Runs
