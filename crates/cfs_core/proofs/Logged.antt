@@ -221,3 +221,197 @@ logged_retired core place apart old out =
         let busy : is_busy (at core (place - 1)) ≡ true = out_busy (at core (place - 1)) (rw was at out) in
         clash (meets (at core i).span (at core (place - 1)).span)
         ((meets-overlap (at core i).span (at core (place - 1)).span).1 (p, (alters.1, last.1.1))) (apart i (place - 1) less live busy)
+
+-- ---- marks
+
+live_within : (core : Core) (k : ℕ) → IsLive core k → k < length core.tracks
+live_within core k live = elim (cases_lt k (length core.tracks)) [
+  | inl within ↦ within
+  | inr past ↦
+      let empty : get_or core.tracks k blank ≡ blank = get_or_past core.tracks k blank past in
+      let own : is_live blank.state ≡ true = rw empty at live in
+      cc
+]
+
+-- What a mark has tested, at indices.
+record Marks (core : Core) (place by : ℕ) : Type 0 where
+  some : place ≡ 0 → ⊥
+  waits : is_waiting (track core.tracks place).state ≡ true
+  later : place - 1 < by - 1
+  live : IsLive core (by - 1)
+  reaches : reaches_over (at core (by - 1)).span (at core (place - 1)).span ≡ true
+  unread : needed_between core.tracks place by (track core.tracks place).span ≡ false
+
+marks_of : (core : Core) (place by : ℕ) → may_mark core place by ≡ true → Marks core place by
+marks_of core place by h =
+    let waiting = both (is_waiting (track core.tracks place).state) _ h in
+    let order = both (nat_lt place by) _ waiting.1 in
+    let lives = both (is_live (track core.tracks by).state) _ order.1 in
+    let cover = both (reaches_over (track core.tracks by).span (track core.tracks place).span) _ lives.1 in
+    let some = some_place is_waiting refl core.tracks place waiting.0 in
+    let later = some_place is_live refl core.tracks by lives.0 in
+    let less : place < by = ltb-true place by order.0 in
+    let at_place : track core.tracks place ≡ get_or core.tracks (place - 1) blank = track_is core.tracks place (place - 1) some refl in
+    let at_by : track core.tracks by ≡ get_or core.tracks (by - 1) blank = track_is core.tracks by (by - 1) later refl in
+    record {
+      some = some;
+      waits = waiting.0;
+      later = lower some less;
+      live = rw at_by at lives.0;
+      reaches = rw (at_place, at_by) at cover.0;
+      unread = not_true (needed_between core.tracks place by (track core.tracks place).span) cover.1;
+    }
+  where
+    lower : (place ≡ 0 → ⊥) → place < by → place - 1 < by - 1
+    lower some less = omega arith
+
+covered_by : (core : Core) (place by : ℕ) → IsLogged core → Marks core place by → IsCovered core (place - 1)
+covered_by core place by old marks = (by - 1, (marks.later, (old.live_changes (by - 1) marks.live, marks.reaches)))
+
+-- no view is between the two that has a position of the entry
+alone_marked : (core : Core) (place by : ℕ) → IsOrdered core → IsLogged core → Marks core place by → IsAlone core (place - 1)
+alone_marked core place by ordered old marks v i p view last less live alters = elim (cases_lt (by - 1) v) [
+  | inl before ↦ last.2 (by - 1) marks.later before
+      (old.live_changes (by - 1) marks.live, (reaches_over-covers (at core (by - 1)).span (at core (place - 1)).span).0 marks.reaches p last.1.1)
+  | inr up ↦ elim view [
+    | inl end ↦ absurd (omega (arith, ordered.same, live_within core (by - 1) marks.live))
+    | inr asked ↦ elim (same_or_not v (by - 1)) [
+      | inl same ↦ unserved_dead (at core v).state asked.0 (rw same marks.live)
+      | inr other ↦
+          clash (meets (at core v).span (at core (place - 1)).span)
+          ((meets-overlap (at core v).span (at core (place - 1)).span).1 (p, (asked.1, last.1.1)))
+          (unread (above marks.some last.0) (omega arith) asked.0)
+    ]
+  ]
+]
+  where
+    above : (place ≡ 0 → ⊥) → place - 1 < v → place ≤ v
+    above some later = omega arith
+
+    unread : place ≤ v → v < by - 1 → IsUnserved core v → meets (at core v).span (at core (place - 1)).span ≡ false
+    unread from_place before asks =
+        let was : track core.tracks place ≡ get_or core.tracks (place - 1) blank = track_is core.tracks place (place - 1) marks.some refl in
+        let within : by - 1 < length core.tracks = live_within core (by - 1) marks.live in
+        let dropped : get_or (drop place (take (by - 1) core.tracks)) (v - place) blank ≡ get_or (take (by - 1) core.tracks) (place + (v - place)) blank =
+        get_or-drop place (take (by - 1) core.tracks) (v - place) blank in
+        let there : place + (v - place) ≡ v = omega arith in
+        let taken : get_or (take (by - 1) core.tracks) v blank ≡ get_or core.tracks v blank = get_or-take (by - 1) core.tracks v blank before in
+        let tested = any_none (λ t. is_unserved t.state && meets t.span (track core.tracks place).span) (drop place (take (by - 1) core.tracks)) (v - place) marks.unread
+        (omega (arith, length-drop place (take (by - 1) core.tracks), length-take (by - 1) core.tracks)) in
+        live_only (is_unserved (at core v).state) (meets (at core v).span (at core (place - 1)).span) (rw (dropped, there, taken, was) at tested) asks
+
+logged_marked : (core : Core) (place by : ℕ) (kept : Bool) → IsOrdered core → IsLogged core → may_mark core place by ≡ true →
+    IsLogged (with_track core place (marked (track core.tracks place) kept))
+logged_marked core place by true ordered old h =
+    let marks = marks_of core place by h in
+    logged_put core place (marked (track core.tracks place) true) old (record {
+      some = marks.some;
+      span = refl;
+      live = λ live. cc;
+      asks = λ asks. cc;
+      busy = λ busy. inl (or_right (is_out (track core.tracks place).state) (track core.tracks place).applied busy);
+      idle = λ block applied. refl;
+      mark = λ off. covered_by core place by old marks;
+      falls = λ live. inr (alone_marked core place by ordered old marks);
+    })
+logged_marked core place by false ordered old h =
+    let marks = marks_of core place by h in
+    logged_put core place (marked (track core.tracks place) false) old (record {
+      some = marks.some;
+      span = refl;
+      live = λ live. live;
+      asks = λ asks. asks;
+      busy = λ busy. inl busy;
+      idle = λ block applied. idle_at core place block old marks.some applied;
+      mark = λ off. covered_by core place by old marks;
+      falls = λ live. inl live;
+    })
+
+-- ---- the medium
+
+logged_sized : (core : Core) (end : SizeEnd) (size : ℕ) → IsLogged core → IsLogged (with_size core end size)
+logged_sized core sizes.AsBefore size old = old
+logged_sized core sizes.Set size old = logged_medium core size [] core.bytes core.loose old
+logged_sized core sizes.Either size old = logged_medium core size (core.sizes ++ core.size ∷ []) core.bytes core.loose old
+
+logged_finished : (core : Core) (place : ℕ) (end : End) → AreApart core → IsLogged core → is_out (track core.tracks place).state ≡ true →
+    IsLogged (finished core place (track core.tracks place) end)
+logged_finished core place ends.Retired apart old out =
+    logged_sized (with_track core place (retired (track core.tracks place))) sizes.Set (sized core.size (track core.tracks place).span)
+    (logged_retired core place apart old out)
+logged_finished core place ends.More apart old out = logged_back core place (more_to_come (track core.tracks place)) old out refl refl refl
+logged_finished core place (ends.Back size gate applied) apart old out =
+    logged_sized (with_track core place (put_back (track core.tracks place) gate applied)) size (sized core.size (track core.tracks place).span)
+    (logged_back core place (put_back (track core.tracks place) gate applied) old out refl refl refl)
+
+written_out : (s : State) (block : ℕ) (ok : Bool) → is_out s ≡ true → is_out (state_written block ok s) ≡ true
+written_out Waiting block ok h = cc
+written_out (Out job) block ok h = refl
+written_out Noop block ok h = cc
+written_out Unserved block ok h = cc
+written_out Closed block ok h = cc
+
+flushed_out : (s : State) (block : ℕ) → is_out s ≡ true → is_out (state_flushed block s) ≡ true
+flushed_out Waiting block h = cc
+flushed_out (Out job) block h = refl
+flushed_out Noop block h = cc
+flushed_out Unserved block h = cc
+flushed_out Closed block h = cc
+
+logged_written : (core : Core) (place block : ℕ) (left : Option (List ℕ)) → IsLogged core → has_block (track core.tracks place).state block ≡ true →
+    IsLogged (block_written core place block left)
+logged_written core place block None old h =
+    logged_medium (with_state core place (state_written block true (track core.tracks place).state)) _ _ _ _
+    (logged_job core place block (state_written block true (track core.tracks place).state) old h
+    (written_out (track core.tracks place).state block true (block_out (track core.tracks place).state block h)))
+logged_written core place block (Some left) old h =
+    logged_medium (with_state core place (state_written block false (track core.tracks place).state)) _ _ _ _
+    (logged_job core place block (state_written block false (track core.tracks place).state) old h
+    (written_out (track core.tracks place).state block false (block_out (track core.tracks place).state block h)))
+
+logged_flushed : (core : Core) (place block : ℕ) (ok : Bool) → IsLogged core → has_block (track core.tracks place).state block ≡ true →
+    IsLogged (flushed core place block ok)
+logged_flushed core place block false old h = old
+logged_flushed core place block true old h =
+    logged_medium (with_state core place (state_flushed block (track core.tracks place).state)) _ _ _ _
+    (logged_job core place block (state_flushed block (track core.tracks place).state) old h
+    (flushed_out (track core.tracks place).state block (block_out (track core.tracks place).state block h)))
+
+-- ---- crash and mount
+
+unsure_stays : (f : Flag) (b : Bool) → can_be f b ≡ true → is_off (flag_of b) ≡ false → is_off f ≡ false
+unsure_stays Off true can off = cc
+unsure_stays Off false can off = cc
+unsure_stays On b can off = refl
+unsure_stays Unsure b can off = refl
+
+on_stays : (f : Flag) (b : Bool) → can_be f b ≡ true → is_on f ≡ true → is_on (flag_of b) ≡ true
+on_stays Off b can on = cc
+on_stays On true can on = refl
+on_stays On false can on = cc
+on_stays Unsure b can on = cc
+
+-- what stands at an index of the tracks that a crash makes sure
+sure_at : (core : Core) (image : Image) (k : ℕ) →
+    ((k < length core.tracks) × (get_or (sure_tracks core.tracks image.gates image.marks) k blank ≡ sure_track (get_or core.tracks k blank) (get_or image.gates k false) (get_or image.marks k false)))
+    ⊎ ((get_or (sure_tracks core.tracks image.gates image.marks) k blank ≡ blank) × (get_or core.tracks k blank ≡ blank))
+sure_at core image k = elim (cases_lt k (length core.tracks)) [
+  | inl within ↦ inl (within, get_or-map-range_with_len (λ n. sure_track (get_or core.tracks n blank) (get_or image.gates n false) (get_or image.marks n false)) 0 (length core.tracks) k k blank within (omega arith))
+  | inr past ↦ inr (get_or_past (sure_tracks core.tracks image.gates image.marks) k blank
+      (omega (arith, length-map-range_with_len (λ n. sure_track (get_or core.tracks n blank) (get_or image.gates n false) (get_or image.marks n false)) 0 (length core.tracks))),
+    get_or_past core.tracks k blank past)
+]
+
+follows_crash : (core : Core) (image : Image) → IsLogged core → is_image core image ≡ true → Follows core (sure_tracks core.tracks image.gates image.marks)
+follows_crash core image old h = record {
+  span = λ k. elim (sure_at core image k) [ inl now ↦ rw now.1 refl | inr none ↦ rw (none.0, none.1) refl ];
+  live = λ k live. elim (sure_at core image k) [ inl now ↦ rw now.1 at live | inr none ↦ rw none.1 (rw none.0 at live) ];
+  asks = λ k asks. elim (sure_at core image k) [ inl now ↦ rw now.1 at asks | inr none ↦ rw none.1 (rw none.0 at asks) ];
+  busy = λ k busy. inl (elim (sure_at core image k) [ inl now ↦ rw now.1 at busy | inr none ↦ rw none.1 (rw none.0 at busy) ]);
+  idle = λ k block applied. elim (sure_at core image k) [ inl now ↦ rw now.1 (old.idle k block (rw now.1 at applied)) | inr none ↦ rw none.0 refl ];
+  mark = λ k off. elim (sure_at core image k) [
+    | inl now ↦ old.covered k (unsure_stays (at core k).mark (get_or image.marks k false) (mark_allowed core image k h now.0) (rw now.1 at off))
+    | inr none ↦ let own : is_off blank.mark ≡ false = rw none.0 at off in cc
+  ];
+  falls = λ k live. inl (elim (sure_at core image k) [ inl now ↦ rw now.1 live | inr none ↦ rw none.0 (rw none.1 at live) ]);
+}
