@@ -77,17 +77,17 @@ apart_put core place t apart some same_span lives busies i j less = put (seen co
         rw (first, second) (apart i j less (rw first at live) (rw second at busy))
 
 -- an entry that is out
-out_busy : (t : Track) → is_out t.state ≡ true → is_busy t ≡ true
+pub out_busy : (t : Track) → is_out t.state ≡ true → is_busy t ≡ true
 out_busy t h = rw h refl
 
-out_live : (s : State) → is_out s ≡ true → is_live s ≡ true
+pub out_live : (s : State) → is_out s ≡ true → is_live s ≡ true
 out_live Waiting h = cc
 out_live (Out job) h = refl
 out_live Noop h = cc
 out_live Unserved h = cc
 out_live Closed h = cc
 
-block_out : (s : State) (block : ℕ) → has_block s block ≡ true → is_out s ≡ true
+pub block_out : (s : State) (block : ℕ) → has_block s block ≡ true → is_out s ≡ true
 block_out Waiting block h = cc
 block_out (Out job) block h = refl
 block_out Noop block h = cc
@@ -141,34 +141,35 @@ apart_push core entry t apart idle i j less = push (at i) (at j)
     push (inr (inl first)) (inl second) live busy = absurd (omega arith)
     push (inr (inr first)) (inl second) live busy = let own : is_live blank.state ≡ true = rw first at live in cc
 
-any_none : (f : Track → Bool) (tracks : List Track) (i : ℕ) → list_any f tracks ≡ false → i < length tracks → f (get_or tracks i blank) ≡ false
+pub any_none : (f : Track → Bool) (tracks : List Track) (i : ℕ) → list_any f tracks ≡ false → i < length tracks → f (get_or tracks i blank) ≡ false
 any_none f [] i h less = absurd (omega arith)
 any_none f (t ∷ tracks) zero h less = (neither (f t) (list_any f tracks) h).0
 any_none f (t ∷ tracks) (suc i) h less = any_none f tracks i (neither (f t) (list_any f tracks) h).1 (omega arith)
 
-live_only : (a b : Bool) → (a && b) ≡ false → a ≡ true → b ≡ false
+pub live_only : (a b : Bool) → (a && b) ≡ false → a ≡ true → b ≡ false
 live_only true b h is = h
 live_only false b h is = cc
 
-not_true : (b : Bool) → not b ≡ true → b ≡ false
+pub not_true : (b : Bool) → not b ≡ true → b ≡ false
 not_true true h = cc
 not_true false h = refl
 
--- what a dispatch has tested
-clear : (core : Core) (place : ℕ) (span : Span) → meets_live core.tracks place span ≡ false →
-    (i : ℕ) → i < place - 1 → is_live (get_or core.tracks i blank).state ≡ true → meets (get_or core.tracks i blank).span span ≡ false
-clear core place span none i less live = elim (cases_lt i (length core.tracks)) [
+-- what a test of the earlier entries says of each of them
+pub none_before : (test : State → Bool) → test Closed ≡ false → (tracks : List Track) (place : ℕ) (span : Span) →
+    list_any (λ t. test t.state && meets t.span span) (take (place - 1) tracks) ≡ false →
+    (i : ℕ) → i < place - 1 → test (get_or tracks i blank).state ≡ true → meets (get_or tracks i blank).span span ≡ false
+none_before test closed tracks place span none i less passes = elim (cases_lt i (length tracks)) [
   | inl within ↦
-      let same : get_or (take (place - 1) core.tracks) i blank ≡ get_or core.tracks i blank = get_or-take (place - 1) core.tracks i blank less in
-      let tested = any_none (λ t. is_live t.state && meets t.span span) (take (place - 1) core.tracks) i none (omega (arith, length-take (place - 1) core.tracks)) in
-      live_only (is_live (get_or core.tracks i blank).state) (meets (get_or core.tracks i blank).span span) (rw same at tested) live
+      let same : get_or (take (place - 1) tracks) i blank ≡ get_or tracks i blank = get_or-take (place - 1) tracks i blank less in
+      let tested = any_none (λ t. test t.state && meets t.span span) (take (place - 1) tracks) i none (omega (arith, length-take (place - 1) tracks)) in
+      live_only (test (get_or tracks i blank).state) (meets (get_or tracks i blank).span span) (rw same at tested) passes
   | inr past ↦
-      let empty : get_or core.tracks i blank ≡ blank = get_or_past core.tracks i blank past in
-      let own : is_live blank.state ≡ true = rw empty at live in
+      let empty : get_or tracks i blank ≡ blank = get_or_past tracks i blank past in
+      let own : test blank.state ≡ true = rw empty at passes in
       cc
 ]
 
-waiting_live : (s : State) → is_waiting s ≡ true → is_live s ≡ true
+pub waiting_live : (s : State) → is_waiting s ≡ true → is_live s ≡ true
 waiting_live Waiting h = refl
 waiting_live (Out job) h = cc
 waiting_live Noop h = cc
@@ -182,7 +183,7 @@ apart_dispatch core place apart h =
     let none = not_true (meets_live core.tracks place (track core.tracks place).span) (first_of_and (not (meets_live core.tracks place (track core.tracks place).span)) _ rest.1) in
     apart_put core place (record (track core.tracks place) { state = Out (next_job core.tags (track core.tracks place)) }) apart
     (some_place is_waiting refl core.tracks place waiting) refl (λ live. waiting_live (track core.tracks place).state waiting)
-    (λ busy. inr (clear core place (track core.tracks place).span none))
+    (λ busy. inr (none_before is_live refl core.tracks place (track core.tracks place).span none))
 
 apart_marked : (core : Core) (place : ℕ) (kept : Bool) → AreApart core → is_waiting (track core.tracks place).state ≡ true → AreApart (with_track core place (marked (track core.tracks place) kept))
 apart_marked core place true apart h =

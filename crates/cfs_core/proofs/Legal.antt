@@ -63,7 +63,7 @@ query_file file requests.Sync h is = is
 place_is : (place n : ℕ) → (place == n) ≡ true → place ≡ n
 place_is place n h = grind (arith, nat_tests)
 
-at_most : (a b : ℕ) → nat_le a b ≡ true → a ≤ b
+pub at_most : (a b : ℕ) → nat_le a b ≡ true → a ≤ b
 at_most a b h = grind (arith, nat_tests)
 
 abbrev IsOrderly : Core → Type 0

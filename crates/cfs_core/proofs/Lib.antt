@@ -4,6 +4,10 @@ pub mod Covered
 pub mod Images
 pub mod Kept
 pub mod Legal
+pub mod Logged
+pub mod LoggedFrames
+pub mod LoggedPush
+pub mod LoggedTags
 pub mod Moments
 pub mod Order
 pub mod Recovers

@@ -1,0 +1,228 @@
+-- A logged entry keeps the log's part of the invariant: it is the last at its positions.
+use Rattle.std.proofs.Common.{◌≡◌, ◌⊎◌, inl, inr, ℕ, suc, zero, ◌+◌, ◌-◌, ◌<◌, ◌≤◌, Bool, true, false, not, Option, Some, None, List, [], ◌∷◌, ◌++◌, length, take, get_or, arith, refl, sym, ap, ◌∙◌, length-append}
+use Rattle.std.specs.List.{slice_get}
+use Rattle.std.proofs.lemmas.Bool.{cases_lt}
+use Rattle.std.proofs.lemmas.List.{get_or_append_left, get_or-append_right, get_or_past, take_all}
+use Rattle.std.proofs.lemmas.Option.{slice_get_past}
+use Rattle.cfs_file.specs.declared.entry.Entry.{Entry}
+use Rattle.cfs_file.specs.declared.span.Span.{Span}
+use Rattle.cfs_file.specs.declared.span.Span.TheVariants.{Nothing, Range, From}
+use Rattle.cfs_file.specs.File.{effect}
+use Rattle.cfs_file.specs.Log.{file_of}
+use Rattle.cfs_file.specs.Span.{Holds, meets, reaches_over, span}
+use Rattle.cfs_file.proofs.Logs.{file_of-append, slice_get-snoc, take-snoc_within}
+use Rattle.cfs_core.specs.declared.track.Track.{Track}
+use Rattle.cfs_core.specs.declared.doubt.Doubt.{Doubt}
+use Rattle.cfs_core.specs.declared.inode_core.Core.{Core}
+use Rattle.cfs_core.specs.Words.{blank, has_block, is_live, is_off, is_unserved}
+use Rattle.cfs_core.specs.Medium.{file}
+use Rattle.cfs_core.specs.May.{is_change, is_mapped, is_query}
+use Rattle.cfs_core.specs.After.{logged}
+use Rattle.cfs_core.proofs.Apart.{is_busy, not_true}
+use Rattle.cfs_core.proofs.Order.{same_or_not}
+use Rattle.cfs_core.proofs.Kept.{Alters, IsChange, IsDoubtful, IsLast, IsLive, IsLogged, IsUnserved, IsView, at, file_at, is_asking, is_changing}
+use Rattle.cfs_core.proofs.LoggedFrames.{IsCovered}
+
+-- ---- lists with one element more
+
+slice_get-snoc_within : {X : Type 0} (xs : List X) (x : X) (k : ℕ) → k < length xs → slice_get (xs ++ x ∷ []) k ≡ slice_get xs k
+slice_get-snoc_within [] x k less = absurd (omega arith)
+slice_get-snoc_within (y ∷ ys) x zero less = refl
+slice_get-snoc_within (y ∷ ys) x (suc k) less = slice_get-snoc_within ys x k (omega arith)
+
+slice_get-snoc_last : {X : Type 0} (xs : List X) (x : X) → slice_get (xs ++ x ∷ []) (length xs) ≡ Some x
+slice_get-snoc_last [] x = refl
+slice_get-snoc_last (y ∷ ys) x = slice_get-snoc_last ys x
+
+get_or-snoc_last : (tracks : List Track) (t : Track) → get_or (tracks ++ t ∷ []) (length tracks) blank ≡ t
+get_or-snoc_last tracks t =
+    let now : get_or (tracks ++ t ∷ []) (length tracks) blank ≡ get_or (t ∷ []) (length tracks - length tracks) blank =
+    get_or-append_right tracks (t ∷ []) (length tracks) (length tracks) blank refl (omega arith) in
+    let first : length tracks - length tracks ≡ 0 = omega arith in
+    rw (now, first) refl
+
+-- a test of one of the tracks is a test of an old one or of the new one
+tested : (test : Track → Bool) → test blank ≡ false → (tracks : List Track) (t : Track) (k : ℕ) → test (get_or (tracks ++ t ∷ []) k blank) ≡ true →
+    ((k < length tracks) × (test (get_or tracks k blank) ≡ true)) ⊎ ((k ≡ length tracks) × (test t ≡ true))
+tested test none tracks t k h = elim (cases_lt k (length tracks)) [
+  | inl within ↦ inl (within, rw (get_or_append_left tracks (t ∷ []) blank k within) at h)
+  | inr past ↦ elim (same_or_not k (length tracks)) [
+    | inl last ↦ inr (last, rw (last, get_or-snoc_last tracks t) at h)
+    | inr beyond ↦
+        let empty : get_or (tracks ++ t ∷ []) k blank ≡ blank = get_or_past (tracks ++ t ∷ []) k blank (omega (arith, length-append tracks (t ∷ []))) in
+        let own : test blank ≡ true = rw empty at h in
+        cc
+  ]
+]
+
+holds_or_not : (s : Span) (p : ℕ) → Holds s p ⊎ (Holds s p → ⊥)
+holds_or_not Nothing p = inr (λ h. h)
+holds_or_not (Range from to) p = elim (cases_lt p from) [
+  | inl before ↦ inr (λ h. let low : from ≤ p = h.0 in omega arith)
+  | inr up ↦ elim (cases_lt p to) [ inl within ↦ inl (up, within) | inr past ↦ inr (λ h. let high : p < to = h.1 in omega arith) ]
+]
+holds_or_not (From from) p = elim (cases_lt p from) [ inl before ↦ inr (λ h. let low : from ≤ p = h in omega arith) | inr up ↦ inl up ]
+
+true_or_false : (b : Bool) → (b ≡ true) ⊎ (b ≡ false)
+true_or_false true = inl refl
+true_or_false false = inr refl
+
+-- What is kept of an entry that is logged.
+pub record Joins (core : Core) (entry : Entry) (t : Track) : Type 0 where
+  pub same : length core.tracks ≡ length core.log
+  pub span : t.span ≡ span entry.request (length (file core))
+  pub kind : (is_change entry.request ≡ true) ⊎ (is_query entry.request ≡ true)
+  pub live : is_live t.state ≡ is_change entry.request
+  pub asks : is_unserved t.state ≡ true → is_query entry.request ≡ true
+  pub idle : is_busy t ≡ false
+  pub unapplied : t.applied ≡ false
+  pub unmarked : is_off t.mark ≡ true
+  pub mapped : is_live t.state ≡ true → is_mapped core.tags t.span ≡ true
+  pub doubt : (d : Doubt) → core.doubt ≡ Some d → effect (file core) entry.request ≡ file core
+
+pub logged_push : (core : Core) (entry : Entry) (t : Track) → IsLogged core → Joins core entry t → IsLogged (logged core entry t)
+logged_push core entry t kept joins = record {
+  kinds = λ k e is. elim (slice_get-snoc core.log entry k e is) [
+    | inl within ↦ kept.kinds k e within.1
+    | inr last ↦ rw last.1 joins.kind
+  ];
+  spans = λ k e is. elim (slice_get-snoc core.log entry k e is) [
+    | inl within ↦ rw (track_old k within.0, take-snoc_within core.log entry k (omega arith)) (kept.spans k e within.1)
+    | inr last ↦ rw (last.1, last.0, track_last, file_last) joins.span
+  ];
+  live_changes = live_changes;
+  busy_changes = λ k busy. elim (tested is_busy refl core.tracks t k busy) [
+    | inl old ↦ new_change k (kept.busy_changes k old.1)
+    | inr last ↦ absurd (clash (is_busy t) last.1 joins.idle)
+  ];
+  queries = λ k asks. elim (tested (λ x. is_unserved x.state) refl core.tracks t k asks) [
+    | inl old ↦ rw (slice_get-snoc_within core.log entry k (omega (arith, joins.same, old.0))) (kept.queries k old.1)
+    | inr last ↦ rw (last.0, joins.same, slice_get-snoc_last core.log entry) (joins.asks last.1)
+  ];
+  idle = λ k block applied. elim (tested (λ x. x.applied) refl core.tracks t k applied) [
+    | inl old ↦ rw (get_or_append_left core.tracks (t ∷ []) blank k old.0) (kept.idle k block old.1)
+    | inr last ↦ absurd (clash t.applied last.1 joins.unapplied)
+  ];
+  mapped = λ k live. elim (tested (λ x. is_live x.state) refl core.tracks t k live) [
+    | inl old ↦ rw (get_or_append_left core.tracks (t ∷ []) blank k old.0) (kept.mapped k old.1)
+    | inr last ↦ rw (last.0, get_or-snoc_last core.tracks t) (joins.mapped last.1)
+  ];
+  covered = λ k off. elim (tested (λ x. not (is_off x.mark)) refl core.tracks t k (rw off refl)) [
+    | inl old ↦ new_covered k old.0 (kept.covered k (not_true (is_off (at core k).mark) old.1))
+    | inr last ↦ absurd (clash (is_off t.mark) joins.unmarked (not_true (is_off t.mark) last.1))
+  ];
+  order = λ v i p view less live alters. elim (cases_lt v (length core.log + 1)) [
+    | inl low ↦ order_within v i p (omega arith) (old_view v p (omega arith) view) less live alters
+    | inr high ↦ order_last v i p (view_last v p high view) less live alters
+  ];
+  clear = λ v k less asks busy. elim (tested is_busy refl core.tracks t k busy) [
+    | inl old ↦
+        let in_log : k < length core.log = omega (arith, joins.same, old.0) in
+        let v_in_log : v < length core.log = omega arith in
+        rw (track_old v v_in_log, track_old k in_log) (kept.clear v k less (rw (track_old v v_in_log) at asks) old.1)
+    | inr last ↦ absurd (clash (is_busy t) last.1 joins.idle)
+  ];
+  doubtful = λ d is.
+      let old = kept.doubtful d is in
+      let whole : file_of core.base (core.log ++ entry ∷ []) ≡ effect (file core) entry.request = file_of-append core.base core.log (entry ∷ []) in
+      let stays : effect (file core) entry.request ≡ file core = joins.doubt d is in
+      record { change = old.change; span_is = rw (whole, stays) old.span_is; mapped = old.mapped; fits = rw (whole, stays) old.fits };
+}
+  where
+    clash : (b : Bool) → b ≡ true → b ≡ false → ⊥
+    clash b on off = cc
+
+    track_old : (k : ℕ) → k < length core.log → get_or (core.tracks ++ t ∷ []) k blank ≡ get_or core.tracks k blank
+    track_old k less = get_or_append_left core.tracks (t ∷ []) blank k (omega (arith, joins.same))
+
+    track_last : get_or (core.tracks ++ t ∷ []) (length core.log) blank ≡ t
+    track_last = rw (← joins.same) (get_or-snoc_last core.tracks t)
+
+    file_last : file_of core.base (take (length core.log) (core.log ++ entry ∷ [])) ≡ file core
+    file_last =
+        let first : take (length core.log) (core.log ++ entry ∷ []) ≡ take (length core.log) core.log = take-snoc_within core.log entry (length core.log) (omega arith) in
+        let all : take (length core.log) core.log ≡ core.log = take_all (length core.log) core.log (omega arith) in
+        rw (first, all) refl
+
+    -- a change stands within the log
+    within : (k : ℕ) → IsChange core k → k < length core.log
+    within k change = elim (cases_lt k (length core.log)) [
+      | inl less ↦ less
+      | inr past ↦
+          let empty : slice_get core.log k ≡ None = slice_get_past core.log k past in
+          let own : is_changing None ≡ true = rw empty at change in
+          cc
+    ]
+
+    new_change : (k : ℕ) → IsChange core k → IsChange (logged core entry t) k
+    new_change k change = rw (slice_get-snoc_within core.log entry k (within k change)) change
+
+    live_changes : (k : ℕ) → IsLive (logged core entry t) k → IsChange (logged core entry t) k
+    live_changes k live = elim (tested (λ x. is_live x.state) refl core.tracks t k live) [
+      | inl old ↦ new_change k (kept.live_changes k old.1)
+      | inr last ↦ rw (last.0, joins.same, slice_get-snoc_last core.log entry) (sym joins.live ∙ last.1)
+    ]
+
+    new_covered : (k : ℕ) → k < length core.tracks → IsCovered core k → IsCovered (logged core entry t) k
+    new_covered k less by =
+        let in_log : k < length core.log = omega (arith, joins.same) in
+        (by.0, (by.1.0, (new_change by.0 by.1.1.0, rw (track_old by.0 (within by.0 by.1.1.0), track_old k in_log) by.1.1.1)))
+
+    old_view : (v p : ℕ) → v ≤ length core.log → IsView (logged core entry t) v p → IsView core v p
+    old_view v p low view = elim view [
+      | inl end ↦ absurd (omega (arith, length-append core.log (entry ∷ [])))
+      | inr asked ↦ elim (cases_lt v (length core.log)) [
+        | inl less ↦ inr (rw (track_old v less) at asked.0, rw (track_old v less) at asked.1)
+        | inr up ↦ inl (omega arith)
+      ]
+    ]
+
+    view_last : (v p : ℕ) → length core.log + 1 ≤ v → IsView (logged core entry t) v p → v ≡ length core.log + 1
+    view_last v p high view = elim view [
+      | inl end ↦ omega (arith, length-append core.log (entry ∷ []))
+      | inr asked ↦ elim (tested (λ x. is_unserved x.state) refl core.tracks t v asked.0) [
+        | inl old ↦ absurd (omega (arith, joins.same, old.0))
+        | inr last ↦ absurd (omega (arith, joins.same, last.0))
+      ]
+    ]
+
+    old_alters : (k p : ℕ) → k < length core.log → Alters (logged core entry t) k p → Alters core k p
+    old_alters k p less alters = (rw (slice_get-snoc_within core.log entry k less) at alters.0, rw (track_old k less) at alters.1)
+
+    new_alters : (k p : ℕ) → k < length core.log → Alters core k p → Alters (logged core entry t) k p
+    new_alters k p less alters = (new_change k alters.0, rw (track_old k less) alters.1)
+
+    order_within : (v i p : ℕ) → v ≤ length core.log → IsView core v p → i < v → IsLive (logged core entry t) i → Alters (logged core entry t) i p →
+        (m : ℕ) × (IsLive (logged core entry t) m × IsLast (logged core entry t) v p m)
+    order_within v i p low view less live alters =
+        let in_log : i < length core.log = omega arith in
+        let found = kept.order v i p view less (rw (track_old i in_log) at live) (old_alters i p in_log alters) in
+        let found_in : found.0 < length core.log = omega (arith, found.1.1.0) in
+        (found.0, (rw (track_old found.0 found_in) found.1.0,
+          (found.1.1.0, new_alters found.0 p found_in found.1.1.1, λ j later before also. found.1.1.2 j later before (old_alters j p (omega arith) also))))
+
+    newest : (p : ℕ) → Alters (logged core entry t) (length core.log) p ⊎ (Alters (logged core entry t) (length core.log) p → ⊥)
+    newest p = elim (true_or_false (is_change entry.request)) [
+      | inl change ↦ elim (holds_or_not t.span p) [
+        | inl holds ↦ inl (rw (slice_get-snoc_last core.log entry) change, rw track_last holds)
+        | inr none ↦ inr (λ alters. none (rw track_last at alters.1))
+      ]
+      | inr query ↦ inr (λ alters. clash (is_change entry.request) (rw (slice_get-snoc_last core.log entry) at alters.0) query)
+    ]
+
+    order_last : (v i p : ℕ) → v ≡ length core.log + 1 → i < v → IsLive (logged core entry t) i → Alters (logged core entry t) i p →
+        (m : ℕ) × (IsLive (logged core entry t) m × IsLast (logged core entry t) v p m)
+    order_last v i p end less live alters = elim (newest p) [
+      | inl own ↦
+          let change : is_change entry.request ≡ true = rw (slice_get-snoc_last core.log entry) at own.0 in
+          (length core.log, (rw track_last (joins.live ∙ change), (omega arith, own, λ j later before also. absurd (omega arith))))
+      | inr none ↦ elim (same_or_not i (length core.log)) [
+        | inl same ↦ absurd (none (rw same at alters))
+        | inr other ↦
+            let found = order_within (length core.log) i p (omega arith) (inl refl) (omega arith) live alters in
+            (found.0, (found.1.0, (omega (arith, found.1.1.0), found.1.1.1, λ j later before also. elim (same_or_not j (length core.log)) [
+              | inl last ↦ none (rw last at also)
+              | inr old ↦ found.1.1.2 j later (omega arith) also
+            ])))
+      ]
+    ]
