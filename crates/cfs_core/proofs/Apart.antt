@@ -77,7 +77,7 @@ apart_put core place t apart some same_span lives busies i j less = put (seen co
         rw (first, second) (apart i j less (rw first at live) (rw second at busy))
 
 -- an entry that is out
-out_busy : (t : Track) → is_out t.state ≡ true → is_busy t ≡ true
+pub out_busy : (t : Track) → is_out t.state ≡ true → is_busy t ≡ true
 out_busy t h = rw h refl
 
 out_live : (s : State) → is_out s ≡ true → is_live s ≡ true
@@ -87,7 +87,7 @@ out_live Noop h = cc
 out_live Unserved h = cc
 out_live Closed h = cc
 
-block_out : (s : State) (block : ℕ) → has_block s block ≡ true → is_out s ≡ true
+pub block_out : (s : State) (block : ℕ) → has_block s block ≡ true → is_out s ≡ true
 block_out Waiting block h = cc
 block_out (Out job) block h = refl
 block_out Noop block h = cc
@@ -141,16 +141,16 @@ apart_push core entry t apart idle i j less = push (at i) (at j)
     push (inr (inl first)) (inl second) live busy = absurd (omega arith)
     push (inr (inr first)) (inl second) live busy = let own : is_live blank.state ≡ true = rw first at live in cc
 
-any_none : (f : Track → Bool) (tracks : List Track) (i : ℕ) → list_any f tracks ≡ false → i < length tracks → f (get_or tracks i blank) ≡ false
+pub any_none : (f : Track → Bool) (tracks : List Track) (i : ℕ) → list_any f tracks ≡ false → i < length tracks → f (get_or tracks i blank) ≡ false
 any_none f [] i h less = absurd (omega arith)
 any_none f (t ∷ tracks) zero h less = (neither (f t) (list_any f tracks) h).0
 any_none f (t ∷ tracks) (suc i) h less = any_none f tracks i (neither (f t) (list_any f tracks) h).1 (omega arith)
 
-live_only : (a b : Bool) → (a && b) ≡ false → a ≡ true → b ≡ false
+pub live_only : (a b : Bool) → (a && b) ≡ false → a ≡ true → b ≡ false
 live_only true b h is = h
 live_only false b h is = cc
 
-not_true : (b : Bool) → not b ≡ true → b ≡ false
+pub not_true : (b : Bool) → not b ≡ true → b ≡ false
 not_true true h = cc
 not_true false h = refl
 

@@ -8,3 +8,5 @@ pub mod Order
 pub mod Runs
 pub mod Sizes
 pub mod StoredFrames
+pub mod StoredQuiet
+pub mod StoredWrites
