@@ -1,10 +1,12 @@
 pub mod Alive
 pub mod Apart
 pub mod Covered
+pub mod Images
 pub mod Kept
 pub mod Legal
 pub mod Moments
 pub mod Order
+pub mod Registers
 pub mod Runs
 pub mod Sizes
 pub mod StoredFrames
