@@ -11,4 +11,6 @@ pub mod Runs
 pub mod Sizes
 pub mod StoredFrames
 pub mod StoredQuiet
+pub mod StoredMark
+pub mod StoredTags
 pub mod StoredWrites
