@@ -15,3 +15,7 @@ pub mod Registers
 pub mod Runs
 pub mod Sizes
 pub mod StoredFrames
+pub mod StoredQuiet
+pub mod StoredMark
+pub mod StoredTags
+pub mod StoredWrites
