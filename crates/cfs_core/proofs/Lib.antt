@@ -1,6 +1,7 @@
 pub mod Alive
 pub mod Apart
 pub mod Covered
+pub mod Goods
 pub mod Images
 pub mod Kept
 pub mod Legal
@@ -13,6 +14,7 @@ pub mod Order
 pub mod Recovers
 pub mod Registers
 pub mod Runs
+pub mod Served
 pub mod Sizes
 pub mod StoredFrames
 pub mod StoredQuiet
