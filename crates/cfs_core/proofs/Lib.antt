@@ -1,6 +1,7 @@
 pub mod Alive
 pub mod Apart
 pub mod Covered
+pub mod Freshly
 pub mod Goods
 pub mod Images
 pub mod Kept
