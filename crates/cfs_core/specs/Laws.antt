@@ -1,5 +1,5 @@
 -- What holds of every run.
-use Rattle.std.specs.Prelude.{◌≡◌, ℕ, ◌+◌, ◌<◌, ◌≤◌, true, false, List, [], ◌∷◌, map}
+use Rattle.std.specs.Prelude.{◌≡◌, ℕ, ◌<◌, true, false, List, [], map}
 use Rattle.std.specs.List.{list_all, list_any}
 use Rattle.cfs_file.specs.Log.{IsLegal}
 use Rattle.cfs_file.specs.Span.{meets, reaches_over}
