@@ -90,42 +90,42 @@ still_dead t s was is sound =
     let closed_gate : (is_off t.gate || is_on t.mark) ≡ true = rw was at sound in
     rw is closed_gate
 
-waiting_lives : (s : State) → is_waiting s ≡ true → is_live s ≡ true
+pub waiting_lives : (s : State) → is_waiting s ≡ true → is_live s ≡ true
 waiting_lives Waiting h = refl
 waiting_lives (Out job) h = cc
 waiting_lives Noop h = cc
 waiting_lives Unserved h = cc
 waiting_lives Closed h = cc
 
-out_lives : (s : State) → is_out s ≡ true → is_live s ≡ true
+pub out_lives : (s : State) → is_out s ≡ true → is_live s ≡ true
 out_lives Waiting h = cc
 out_lives (Out job) h = refl
 out_lives Noop h = cc
 out_lives Unserved h = cc
 out_lives Closed h = cc
 
-block_lives : (s : State) (block : ℕ) → has_block s block ≡ true → is_live s ≡ true
+pub block_lives : (s : State) (block : ℕ) → has_block s block ≡ true → is_live s ≡ true
 block_lives Waiting block h = cc
 block_lives (Out job) block h = refl
 block_lives Noop block h = cc
 block_lives Unserved block h = cc
 block_lives Closed block h = cc
 
-unserved_dead : (s : State) → is_unserved s ≡ true → is_live s ≡ false
+pub unserved_dead : (s : State) → is_unserved s ≡ true → is_live s ≡ false
 unserved_dead Waiting h = cc
 unserved_dead (Out job) h = cc
 unserved_dead Noop h = refl
 unserved_dead Unserved h = refl
 unserved_dead Closed h = refl
 
-written_lives : (s : State) (block : ℕ) (ok : Bool) → is_live s ≡ true → is_live (state_written block ok s) ≡ true
+pub written_lives : (s : State) (block : ℕ) (ok : Bool) → is_live s ≡ true → is_live (state_written block ok s) ≡ true
 written_lives Waiting block ok h = refl
 written_lives (Out job) block ok h = refl
 written_lives Noop block ok h = cc
 written_lives Unserved block ok h = cc
 written_lives Closed block ok h = cc
 
-flushed_lives : (s : State) (block : ℕ) → is_live s ≡ true → is_live (state_flushed block s) ≡ true
+pub flushed_lives : (s : State) (block : ℕ) → is_live s ≡ true → is_live (state_flushed block s) ≡ true
 flushed_lives Waiting block h = refl
 flushed_lives (Out job) block h = refl
 flushed_lives Noop block h = cc

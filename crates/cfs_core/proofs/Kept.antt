@@ -1,16 +1,17 @@
 -- The invariant of a run: what the log, the tracks and the medium have to do with each other. Entries are
 -- named by their index, from 0.
-use Rattle.std.proofs.Common.{◌≡◌, ◌⊎◌, ℕ, ◌<◌, ◌≤◌, Bool, true, false, Option, Some, None, List, [], length, take, get_or, nat_lt, if◌then◌else◌}
-use Rattle.std.specs.List.{slice_get}
+use Rattle.std.proofs.Common.{◌≡◌, ◌⊎◌, ℕ, ◌+◌, ◌*◌, ◌/◌, ◌<◌, ◌≤◌, Bool, true, false, Option, Some, None, List, [], length, take, get_or, nat_le, nat_lt, if◌then◌else◌}
+use Rattle.std.specs.List.{list_all, slice_get}
 use Rattle.cfs_file.specs.declared.entry.Entry.{Entry}
 use Rattle.cfs_file.specs.declared.span.Span.{Span}
 use Rattle.cfs_file.specs.declared.span.Span.TheVariants.{Nothing, Range, From}
 use Rattle.cfs_file.specs.File.{IsFile, effect}
 use Rattle.cfs_file.specs.Log.{IsLegal, file_of}
 use Rattle.cfs_file.specs.Span.{Holds, meets, reaches_over, span}
-use Rattle.cfs_core.specs.declared.block.TheConstants.{BLOCKS}
+use Rattle.cfs_core.specs.declared.block.TheConstants.{BLOCK, BLOCKS}
 use Rattle.cfs_core.specs.declared.track.Track.{Track}
 use Rattle.cfs_core.specs.declared.doubt.Doubt.{Doubt}
+use Rattle.cfs_core.specs.declared.stretch.Stretch.{Stretch}
 use Rattle.cfs_core.specs.declared.inode_core.Core.{Core}
 use Rattle.cfs_core.specs.Words.{blank, byte_at, has_block, is_live, is_off, is_unserved, payload, sized}
 use Rattle.cfs_core.specs.Medium.{file, is_size, rests}
@@ -102,7 +103,12 @@ pub record IsLogged (core : Core) : Type 0 where
 
 -- ---- the medium's part
 
+-- the stretch ends with the block that it begins in
+abbrev pub is_short : Stretch → Bool
+is_short s = nat_le s.to (BLOCK * (s.from / BLOCK) + BLOCK)
+
 pub record IsStored (core : Core) : Type 0 where
+  pub short : list_all is_short core.loose ≡ true
   -- where no live entry before a view has the position, its byte is stored in every image
   pub rests_free : (v p : ℕ) → IsView core v p → IsFree core v p → rests core p (get_or (file_at core v) p 0) ≡ true
   -- and it is 0 past each size that the size word may have

@@ -1,6 +1,8 @@
 pub mod Alive
 pub mod Apart
 pub mod Covered
+pub mod Goods
+pub mod Images
 pub mod Kept
 pub mod Legal
 pub mod Logged
@@ -9,5 +11,13 @@ pub mod LoggedPush
 pub mod LoggedTags
 pub mod Moments
 pub mod Order
+pub mod Recovers
+pub mod Registers
 pub mod Runs
+pub mod Served
 pub mod Sizes
+pub mod StoredFrames
+pub mod StoredQuiet
+pub mod StoredMark
+pub mod StoredTags
+pub mod StoredWrites

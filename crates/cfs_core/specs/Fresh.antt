@@ -29,8 +29,8 @@ is_sure Off = true
 is_sure On = true
 is_sure Unsure = false
 
--- Nothing is logged or in doubt, no tag is unsure, and in every image the base is the stored file, with 0
--- behind its end.
+-- Nothing is logged, in doubt or unflushed, no tag is unsure, and in every image the base is the stored
+-- file, with 0 behind its end.
 pub record IsFresh (core : Core) : Type 0 where
   pub fits : IsFile core.base
   pub log : core.log ≡ []
@@ -41,4 +41,5 @@ pub record IsFresh (core : Core) : Type 0 where
   pub blocks : length core.tags ≡ BLOCKS
   pub tags : list_all is_sure core.tags ≡ true
   pub bytes : (position : ℕ) → rests core position (get_or core.base position 0) ≡ true
+  pub loose : core.loose ≡ []
   pub up : core.crashed ≡ false

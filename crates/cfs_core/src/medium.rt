@@ -256,10 +256,8 @@ fn apply_placed(file: &mut Bytes, request: &Request, span: Span) -> Result<(), N
 {
     match request {
         Request::Append { bytes } => file.put(start_of(span), bytes.as_slice()),
-        Request::Write { .. }
-        | Request::Truncate { .. }
-        | Request::Read { .. }
-        | Request::Sync => apply(file, request),
+        Request::Write { .. } | Request::Truncate { .. } | Request::Read { .. } | Request::Sync =>
+            apply(file, request),
     }
 }
 
