@@ -1,15 +1,14 @@
 -- Each event keeps the log's part of the invariant.
-use Rattle.std.proofs.Common.{◌≡◌, ◌⊎◌, inl, inr, ℕ, ◌+◌, ◌-◌, ◌<◌, ◌≤◌, ◌==◌, Bool, true, false, ◌&&◌, ◌||◌, not, if◌then◌else◌, Option, Some, None, List, [], ◌∷◌, ◌++◌, length, map, take, drop, get_or, set, arith, refl, sym, ◌∙◌, is_none, nat_lt, length-append, length-drop, length-set, length-take}
-use Rattle.std.specs.List.{list_any, slice_get}
+use Rattle.std.proofs.Common.{◌≡◌, ◌⊎◌, inl, inr, ℕ, ◌+◌, ◌-◌, ◌<◌, ◌≤◌, ◌==◌, Bool, true, false, ◌&&◌, not, if◌then◌else◌, Option, Some, None, List, [], ◌∷◌, ◌++◌, length, map, take, drop, get_or, arith, refl, sym, ◌∙◌, is_none, nat_lt, length-drop, length-set, length-take}
 use Rattle.std.proofs.lemmas.Bool.{cases_lt, ltb-true}
 use Rattle.std.proofs.lemmas.Bool.Decides.{nat_tests}
-use Rattle.std.proofs.lemmas.List.{get_or-drop, get_or-map, get_or-take, get_or_past}
+use Rattle.std.proofs.lemmas.List.{get_or-drop, get_or-map, get_or-take, get_or_past, length-map}
 use Rattle.std.proofs.lemmas.List.FromFn.{get_or-map-range_with_len, length-map-range_with_len}
 use Rattle.cfs_file.specs.declared.entry.Entry.{Entry}
 use Rattle.cfs_file.specs.declared.request.Request.{Request}
 use Rattle.cfs_file.specs.declared.request.Request.TheVariants as requests
-use Rattle.cfs_file.specs.File.{IsFile, effect, put}
-use Rattle.cfs_file.specs.Span.{Holds, meets, reaches_over}
+use Rattle.cfs_file.specs.File.{effect}
+use Rattle.cfs_file.specs.Span.{meets, reaches_over}
 use Rattle.cfs_file.proofs.Spans.{meets-overlap, reaches_over-covers}
 use Rattle.cfs_core.specs.declared.block.TheConstants.{BLOCKS}
 use Rattle.cfs_core.specs.declared.flag.Flag.{Flag}
@@ -28,16 +27,16 @@ use Rattle.cfs_core.specs.declared.event.SizeEnd.TheVariants as sizes
 use Rattle.cfs_core.specs.declared.inode_core.Core.{Core}
 use Rattle.cfs_core.specs.Words.{blank, can_be, flag_of, has_block, is_live, is_noop, is_off, is_on, is_out, is_unserved, is_waiting, sized, track}
 use Rattle.cfs_core.specs.Jobs.{next_job, state_flushed, state_written}
-use Rattle.cfs_core.specs.Medium.{agree, file, is_image}
-use Rattle.cfs_core.specs.May.{case, fits, in_block, is_change, is_mapped, is_next, is_query, may_admit, may_admit_read, may_dispatch, may_mark, meets_live, meets_read, needed_between, span_now}
+use Rattle.cfs_core.specs.Medium.{agree, allow_bits, file, image_now, is_image, is_size, recovered}
+use Rattle.cfs_core.specs.May.{case, fits, is_change, is_mapped, is_next, is_query, may_admit, may_admit_read, may_dispatch, may_mark, meets_live, meets_read, needed_between, span_now}
 use Rattle.cfs_core.specs.After.{admitted, after, block_written, change_track, crashed_to, finished, flushed, logged, marked, more_to_come, mounted, put_back, query_track, retired, sure_doubt, sure_track, sure_tracks, with_size, with_state, with_track}
 use Rattle.cfs_core.proofs.Legal.{at_most, both}
 use Rattle.cfs_core.proofs.Moments.{or_right}
-use Rattle.cfs_core.proofs.Order.{IsOrdered, first_of_and, mark_allowed, same_or_not, serves, some_place, track_is, writes}
+use Rattle.cfs_core.proofs.Order.{IsOrdered, first_of_and, in_range, mark_allowed, same_or_not, serves, some_place, track_is, writes}
 use Rattle.cfs_core.proofs.Apart.{AreApart, any_none, block_out, is_busy, live_only, none_before, not_true, out_busy, out_live, waiting_live}
-use Rattle.cfs_core.proofs.Kept.{Alters, IsChange, IsDoubtful, IsKept, IsLast, IsLive, IsLogged, IsUnserved, IsView, at}
-use Rattle.cfs_core.proofs.LoggedFrames.{Follows, IsAlone, IsClear, IsCovered, Replaces, logged_beside, logged_follows, logged_medium, logged_put}
-use Rattle.cfs_core.proofs.LoggedPush.{Joins, logged_push}
+use Rattle.cfs_core.proofs.Kept.{IsKept, IsLive, IsLogged, IsUnserved, at}
+use Rattle.cfs_core.proofs.LoggedFrames.{Follows, IsAlone, IsClear, IsCovered, logged_beside, logged_follows, logged_medium, logged_put}
+use Rattle.cfs_core.proofs.LoggedPush.{logged_push}
 use Rattle.cfs_core.proofs.LoggedTags.{logged_tag, logged_trim, mapped_still}
 
 clash : (b : Bool) → b ≡ true → b ≡ false → ⊥
@@ -415,3 +414,121 @@ follows_crash core image old h = record {
   ];
   falls = λ k live. inl (elim (sure_at core image k) [ inl now ↦ rw now.1 live | inr none ↦ rw none.0 (rw none.1 at live) ]);
 }
+
+tags_of_image : (core : Core) (image : Image) → is_image core image ≡ true → agree core.tags image.tags ≡ true
+tags_of_image core image h =
+    let rest = both (is_size core image.size) _ h in
+    (both (agree core.tags image.tags) _ rest.1).0
+
+pub as_many_tags : (core : Core) (image : Image) → is_image core image ≡ true → length image.tags ≡ length core.tags
+as_many_tags core image h =
+    let test = (both (length image.tags == length core.tags) (allow_bits core.tags image.tags) (tags_of_image core image h)).0 in
+    grind (arith, nat_tests)
+
+-- a tag that is on is so in every image
+tag_stays : (core : Core) (image : Image) (k : ℕ) → is_image core image ≡ true → is_on (get_or core.tags k Off) ≡ true →
+    is_on (get_or (map (λ bit. flag_of bit) image.tags) k Off) ≡ true
+tag_stays core image k h on = elim (cases_lt k (length core.tags)) [
+  | inl within ↦
+      let now : get_or (map (λ bit. flag_of bit) image.tags) k Off ≡ flag_of (get_or image.tags k false) =
+      get_or-map (λ bit. flag_of bit) image.tags k false Off (omega (arith, as_many_tags core image h)) in
+      let can = in_range (λ j. can_be (get_or core.tags j Off) (get_or image.tags j false)) 0 (length core.tags) k
+      (both (length image.tags == length core.tags) (allow_bits core.tags image.tags) (tags_of_image core image h)).1 (omega arith) (omega arith) in
+      rw now (on_stays (get_or core.tags k Off) (get_or image.tags k false) can on)
+  | inr past ↦
+      let empty : get_or core.tags k Off ≡ Off = get_or_past core.tags k Off past in
+      let own : is_on Off ≡ true = rw empty at on in
+      cc
+]
+
+sure_doubt_is : (o : Option Doubt) (gate : Bool) (d : Doubt) → sure_doubt o gate ≡ Some d →
+    (old : Doubt) × ((o ≡ Some old) × (d ≡ record old { gate = flag_of gate }))
+sure_doubt_is None gate d is = cc
+sure_doubt_is (Some old) gate d is = (old, (refl, same old gate d is))
+  where
+    same : (e : Doubt) (g : Bool) (f : Doubt) → Some (record e { gate = flag_of g }) ≡ Some f → f ≡ record e { gate = flag_of g }
+    same e g f eq = cc
+
+logged_crash : (core : Core) (image : Image) → IsLogged core → is_image core image ≡ true → IsLogged (crashed_to core image)
+logged_crash core image old h =
+    let sure : IsLogged (record core { tracks = sure_tracks core.tracks image.gates image.marks }) =
+    logged_follows core (sure_tracks core.tracks image.gates image.marks) old (follows_crash core image old h) in
+    logged_beside (record core { tracks = sure_tracks core.tracks image.gates image.marks })
+    (sure_doubt core.doubt image.doubt) image.size [] (map (λ bit. flag_of bit) image.tags) image.bytes [] true sure
+    (λ k live. mapped_still core.tags (map (λ bit. flag_of bit) image.tags) _ (λ j low high on. tag_stays core image j h on) (sure.mapped k live))
+    (λ d is.
+      let was = sure_doubt_is core.doubt image.doubt d is in
+      let before = old.doubtful was.0 was.1.0 in
+      rw was.1.1 (record {
+        change = before.change;
+        span_is = before.span_is;
+        mapped = mapped_still core.tags (map (λ bit. flag_of bit) image.tags) was.0.span (λ j low high on. tag_stays core image j h on) before.mapped;
+        fits = before.fits;
+      }))
+
+logged_mount : (core : Core) (found : List ℕ) → IsLogged (mounted core found)
+logged_mount core found = record {
+  kinds = λ k entry is. cc;
+  spans = λ k entry is. cc;
+  live_changes = λ k live. cc;
+  busy_changes = λ k busy. cc;
+  queries = λ k asks. cc;
+  idle = λ k block applied. cc;
+  mapped = λ k live. cc;
+  covered = λ k off. absurd (clash true refl off);
+  order = λ v i p view less live alters. absurd (clash false live refl);
+  clear = λ v k less asks busy. cc;
+  doubtful = λ d is. absurd (none_some None d refl is);
+}
+
+-- ---- each event
+
+logged_step : (core : Core) (event : Event) → IsOrdered core → AreApart core → IsLogged core → case core event ≡ true → IsLogged (after core event)
+logged_step core (events.Tag block kept) ordered apart old h = logged_tag core block (if kept then On else Unsure) old h
+logged_step core (events.Admit entry grant kept) ordered apart old h = logged_admit core entry grant kept ordered old h
+logged_step core (events.AdmitRead entry) ordered apart old h = logged_query core entry ordered old h
+logged_step core (events.Serve place answer) ordered apart old h =
+    let asks = serves core place answer h in
+    logged_closed core place (track core.tracks place).gate old (some_place is_unserved refl core.tracks place asks)
+    (λ live. unserved_dead (track core.tracks place).state asks live)
+logged_step core (events.Mark place by kept) ordered apart old h = logged_marked core place by kept ordered old h
+logged_step core (events.Dispatch place) ordered apart old h = logged_dispatch core place old h
+logged_step core (events.BlockWrite place block left) ordered apart old h = logged_written core place block left old (writes core place block left h)
+logged_step core (events.Flush place block ok) ordered apart old h =
+    logged_flushed core place block ok old (both (nat_lt block BLOCKS) (has_block (track core.tracks place).state block) h).1
+logged_step core (events.Finish place end) ordered apart old h =
+    logged_finished core place end apart old (first_of_and (is_out (track core.tracks place).state) _ h)
+logged_step core (events.Skip place) ordered apart old h =
+    logged_closed core place Off old (some_place is_noop refl core.tracks place h) (λ live. noop_dead (track core.tracks place).state h live)
+logged_step core (events.Trim block kept) ordered apart old h = logged_trim core block (if kept then Off else Unsure) old h
+logged_step core events.Settle ordered apart old h =
+    logged_beside core None core.size core.sizes core.tags core.bytes core.loose core.crashed old old.mapped (λ d is. absurd (none_some None d refl is))
+logged_step core (events.Crash image) ordered apart old h = logged_crash core image old h
+logged_step core events.Mount ordered apart old h = logged_mount core (recovered core (image_now core))
+
+pub logged-after : (core : Core) (event : Event) → IsKept core → case core event ≡ true → IsLogged (after core event)
+logged-after core event kept h = logged_step core event kept.ordered kept.apart kept.logged h
+
+-- the tags are as many as before
+pub blocks-after : (core : Core) (event : Event) → IsKept core → case core event ≡ true → length (after core event).tags ≡ BLOCKS
+blocks-after core (events.Tag block kept) is h = length-set core.tags block (if kept then On else Unsure) ∙ is.blocks
+blocks-after core (events.Admit entry grant true) is h = is.blocks
+blocks-after core (events.Admit entry grant false) is h = is.blocks
+blocks-after core (events.AdmitRead entry) is h = is.blocks
+blocks-after core (events.Serve place answer) is h = is.blocks
+blocks-after core (events.Mark place by kept) is h = is.blocks
+blocks-after core (events.Dispatch place) is h = is.blocks
+blocks-after core (events.BlockWrite place block None) is h = is.blocks
+blocks-after core (events.BlockWrite place block (Some left)) is h = is.blocks
+blocks-after core (events.Flush place block true) is h = is.blocks
+blocks-after core (events.Flush place block false) is h = is.blocks
+blocks-after core (events.Finish place ends.Retired) is h = is.blocks
+blocks-after core (events.Finish place ends.More) is h = is.blocks
+blocks-after core (events.Finish place (ends.Back sizes.AsBefore gate applied)) is h = is.blocks
+blocks-after core (events.Finish place (ends.Back sizes.Set gate applied)) is h = is.blocks
+blocks-after core (events.Finish place (ends.Back sizes.Either gate applied)) is h = is.blocks
+blocks-after core (events.Skip place) is h = is.blocks
+blocks-after core (events.Trim block kept) is h = length-set core.tags block (if kept then Off else Unsure) ∙ is.blocks
+blocks-after core events.Settle is h = is.blocks
+blocks-after core (events.Crash image) is h = length-map image.tags (λ bit. flag_of bit) ∙ as_many_tags core image h ∙ is.blocks
+blocks-after core events.Mount is h = is.blocks

@@ -1,19 +1,15 @@
 -- What keeps the log's part of the invariant: tracks that follow the old ones, a medium that keeps the
 -- blocks, and a track that is put in place of another.
-use Rattle.std.proofs.Common.{◌≡◌, ◌⊎◌, inl, inr, ℕ, ◌-◌, ◌<◌, Bool, true, false, Option, Some, None, List, get_or, set, arith, refl, sym}
-use Rattle.std.specs.List.{slice_get}
+use Rattle.std.proofs.Common.{◌≡◌, ◌⊎◌, inl, inr, ℕ, ◌-◌, ◌<◌, Bool, true, false, Option, Some, List, get_or, set, arith, refl}
 use Rattle.std.proofs.lemmas.Bool.{cases_lt}
-use Rattle.cfs_file.specs.declared.entry.Entry.{Entry}
-use Rattle.cfs_file.specs.File.{IsFile, effect}
-use Rattle.cfs_file.specs.Span.{Holds, meets, reaches_over, span}
+use Rattle.cfs_file.specs.Span.{meets, reaches_over}
 use Rattle.cfs_core.specs.declared.flag.Flag.{Flag}
 use Rattle.cfs_core.specs.declared.stretch.Stretch.{Stretch}
 use Rattle.cfs_core.specs.declared.track.Track.{Track}
 use Rattle.cfs_core.specs.declared.doubt.Doubt.{Doubt}
 use Rattle.cfs_core.specs.declared.inode_core.Core.{Core}
 use Rattle.cfs_core.specs.Words.{blank, has_block, is_live, is_off, is_unserved, track}
-use Rattle.cfs_core.specs.Medium.{file}
-use Rattle.cfs_core.specs.May.{is_change, is_mapped}
+use Rattle.cfs_core.specs.May.{is_mapped}
 use Rattle.cfs_core.specs.After.{with_track}
 use Rattle.cfs_core.proofs.Order.{same_or_not, track_is}
 use Rattle.cfs_core.proofs.Apart.{is_busy, seen}

@@ -1,5 +1,5 @@
 -- A logged entry keeps the log's part of the invariant: it is the last at its positions.
-use Rattle.std.proofs.Common.{◌≡◌, ◌⊎◌, inl, inr, ℕ, suc, zero, ◌+◌, ◌-◌, ◌<◌, ◌≤◌, Bool, true, false, not, Option, Some, None, List, [], ◌∷◌, ◌++◌, length, take, get_or, arith, refl, sym, ap, ◌∙◌, length-append}
+use Rattle.std.proofs.Common.{◌≡◌, ◌⊎◌, inl, inr, ℕ, suc, zero, ◌+◌, ◌-◌, ◌<◌, ◌≤◌, Bool, true, false, not, Some, None, List, [], ◌∷◌, ◌++◌, length, take, get_or, arith, refl, sym, ◌∙◌, length-append}
 use Rattle.std.specs.List.{slice_get}
 use Rattle.std.proofs.lemmas.Bool.{cases_lt}
 use Rattle.std.proofs.lemmas.List.{get_or_append_left, get_or-append_right, get_or_past, take_all}
@@ -9,18 +9,18 @@ use Rattle.cfs_file.specs.declared.span.Span.{Span}
 use Rattle.cfs_file.specs.declared.span.Span.TheVariants.{Nothing, Range, From}
 use Rattle.cfs_file.specs.File.{effect}
 use Rattle.cfs_file.specs.Log.{file_of}
-use Rattle.cfs_file.specs.Span.{Holds, meets, reaches_over, span}
+use Rattle.cfs_file.specs.Span.{Holds, span}
 use Rattle.cfs_file.proofs.Logs.{file_of-append, slice_get-snoc, take-snoc_within}
 use Rattle.cfs_core.specs.declared.track.Track.{Track}
 use Rattle.cfs_core.specs.declared.doubt.Doubt.{Doubt}
 use Rattle.cfs_core.specs.declared.inode_core.Core.{Core}
-use Rattle.cfs_core.specs.Words.{blank, has_block, is_live, is_off, is_unserved}
+use Rattle.cfs_core.specs.Words.{blank, is_live, is_off, is_unserved}
 use Rattle.cfs_core.specs.Medium.{file}
 use Rattle.cfs_core.specs.May.{is_change, is_mapped, is_query}
 use Rattle.cfs_core.specs.After.{logged}
 use Rattle.cfs_core.proofs.Apart.{is_busy, not_true}
 use Rattle.cfs_core.proofs.Order.{same_or_not}
-use Rattle.cfs_core.proofs.Kept.{Alters, IsChange, IsDoubtful, IsLast, IsLive, IsLogged, IsUnserved, IsView, at, file_at, is_asking, is_changing}
+use Rattle.cfs_core.proofs.Kept.{Alters, IsChange, IsLast, IsLive, IsLogged, IsView, at, is_changing}
 use Rattle.cfs_core.proofs.LoggedFrames.{IsCovered}
 
 -- ---- lists with one element more

@@ -1,8 +1,8 @@
 -- The blocks of what is live or in doubt stay mapped.
-use Rattle.std.proofs.Common.{◌≡◌, ◌⊎◌, inl, inr, ℕ, suc, zero, ◌+◌, ◌-◌, ◌*◌, ◌<◌, ◌≤◌, Bool, true, false, ◌&&◌, not, cond, Option, Some, None, List, length, map, max, min, get_or, set, arith, refl, nat_le, nat_lt, get_or-set_other}
+use Rattle.std.proofs.Common.{◌≡◌, ◌⊎◌, inl, inr, ℕ, suc, zero, ◌+◌, ◌-◌, ◌*◌, ◌<◌, ◌≤◌, Bool, true, false, ◌&&◌, not, cond, Option, Some, None, List, length, max, min, get_or, set, arith, refl, nat_le, nat_lt, get_or-set_other}
 use Rattle.std.specs.List.{list_all, range_with_len, slice_get}
 use Rattle.std.proofs.lemmas.Bool.{cases_lt, lt-ltb, ltb-true}
-use Rattle.std.proofs.lemmas.List.{get_or-map, get_or_past}
+use Rattle.std.proofs.lemmas.List.{get_or_past}
 use Rattle.cfs_file.specs.declared.entry.Entry.{Entry}
 use Rattle.cfs_file.specs.declared.request.Request.{Request}
 use Rattle.cfs_file.specs.declared.request.Request.TheVariants as requests
@@ -11,7 +11,7 @@ use Rattle.cfs_file.specs.declared.span.Span.TheVariants.{Nothing, Range, From}
 use Rattle.cfs_file.specs.Span.{between, meets, span}
 use Rattle.cfs_core.specs.declared.block.TheConstants.{BLOCK, BLOCKS}
 use Rattle.cfs_core.specs.declared.flag.Flag.{Flag}
-use Rattle.cfs_core.specs.declared.flag.Flag.TheVariants.{Off, On, Unsure}
+use Rattle.cfs_core.specs.declared.flag.Flag.TheVariants.{Off}
 use Rattle.cfs_core.specs.declared.doubt.Doubt.{Doubt}
 use Rattle.cfs_core.specs.declared.inode_core.Core.{Core}
 use Rattle.cfs_core.specs.Words.{blank, block_span, end_needed, first_needed, is_lent, is_live, is_off, is_on}
