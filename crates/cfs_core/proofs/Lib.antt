@@ -9,6 +9,7 @@ pub mod Order
 pub mod Registers
 pub mod Runs
 pub mod Sizes
+pub mod StoredCrash
 pub mod StoredFrames
 pub mod StoredQuiet
 pub mod StoredMark
