@@ -17,6 +17,7 @@ pub mod Registers
 pub mod Runs
 pub mod Served
 pub mod Sizes
+pub mod StoredCrash
 pub mod StoredFrames
 pub mod StoredQuiet
 pub mod StoredMark
