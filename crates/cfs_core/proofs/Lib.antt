@@ -5,6 +5,7 @@ pub mod Freshly
 pub mod Goods
 pub mod Images
 pub mod Kept
+pub mod KeptRuns
 pub mod Legal
 pub mod Logged
 pub mod LoggedFrames
