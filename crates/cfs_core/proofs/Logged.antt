@@ -17,6 +17,7 @@ use Rattle.cfs_core.specs.declared.state.State.{State}
 use Rattle.cfs_core.specs.declared.state.State.TheVariants.{Waiting, Out, Noop, Unserved, Closed}
 use Rattle.cfs_core.specs.declared.track.Track.{Track}
 use Rattle.cfs_core.specs.declared.doubt.Doubt.{Doubt}
+use Rattle.cfs_core.specs.declared.stretch.Stretch.{Stretch}
 use Rattle.cfs_core.specs.declared.image.Image.{Image}
 use Rattle.cfs_core.specs.declared.event.Event.{Event}
 use Rattle.cfs_core.specs.declared.event.Event.TheVariants as events
@@ -26,6 +27,7 @@ use Rattle.cfs_core.specs.declared.event.SizeEnd.{SizeEnd}
 use Rattle.cfs_core.specs.declared.event.SizeEnd.TheVariants as sizes
 use Rattle.cfs_core.specs.declared.inode_core.Core.{Core}
 use Rattle.cfs_core.specs.Words.{blank, can_be, flag_of, has_block, is_live, is_noop, is_off, is_on, is_out, is_unserved, is_waiting, sized, track}
+use Rattle.cfs_core.specs.Fresh.{IsFresh}
 use Rattle.cfs_core.specs.Jobs.{next_job, state_flushed, state_written}
 use Rattle.cfs_core.specs.Medium.{agree, allow_bits, file, image_now, is_image, is_size, recovered}
 use Rattle.cfs_core.specs.May.{case, fits, is_change, is_mapped, is_next, is_query, may_admit, may_admit_read, may_dispatch, may_mark, meets_live, meets_read, needed_between, span_now}
@@ -466,8 +468,11 @@ logged_crash core image old h =
         fits = before.fits;
       }))
 
-logged_mount : (core : Core) (found : List ℕ) → IsLogged (mounted core found)
-logged_mount core found = record {
+-- nothing is logged or in doubt
+logged_nothing : (base : List ℕ) (log : List Entry) (tracks : List Track) (doubt : Option Doubt) (size : ℕ) (sizes : List ℕ) (tags : List Flag) (bytes : List ℕ)
+    (loose : List Stretch) (crashed : Bool) → log ≡ [] → tracks ≡ [] → doubt ≡ None →
+    IsLogged (record { base = base; log = log; tracks = tracks; doubt = doubt; size = size; sizes = sizes; tags = tags; bytes = bytes; loose = loose; crashed = crashed })
+logged_nothing base log tracks doubt size sizes tags bytes loose crashed no_log no_tracks no_doubt = rw (no_log, no_tracks, no_doubt) (record {
   kinds = λ k entry is. cc;
   spans = λ k entry is. cc;
   live_changes = λ k live. cc;
@@ -479,7 +484,14 @@ logged_mount core found = record {
   order = λ v i p view less live alters. absurd (clash false live refl);
   clear = λ v k less asks busy. cc;
   doubtful = λ d is. absurd (none_some None d refl is);
-}
+})
+
+logged_mount : (core : Core) (found : List ℕ) → IsLogged (mounted core found)
+logged_mount core found = logged_nothing found [] [] None (length found) [] core.tags found [] false refl refl refl
+
+pub logged-fresh : (core : Core) → IsFresh core → IsLogged core
+logged-fresh core fresh =
+    logged_nothing core.base core.log core.tracks core.doubt core.size core.sizes core.tags core.bytes core.loose core.crashed fresh.log fresh.tracks fresh.doubt
 
 -- ---- each event
 
