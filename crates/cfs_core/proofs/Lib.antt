@@ -1,6 +1,7 @@
 pub mod Alive
 pub mod Apart
 pub mod Covered
+pub mod Freshly
 pub mod Goods
 pub mod Images
 pub mod Kept
@@ -16,6 +17,7 @@ pub mod Registers
 pub mod Runs
 pub mod Served
 pub mod Sizes
+pub mod StoredCrash
 pub mod StoredFrames
 pub mod StoredQuiet
 pub mod StoredMark

@@ -233,7 +233,7 @@ between-some from to less = let test : nat_lt from to ≡ true = lt-ltb from to 
 some_bytes : (n most : ℕ) → (nat_le 1 n && nat_le n most) ≡ true → 1 ≤ n
 some_bytes n most h = let first : nat_le 1 n ≡ true = (both (nat_le 1 n) (nat_le n most) h).0 in grind (arith, nat_tests)
 
-shaped-request : (request : Request) (size : ℕ) → is_change request ≡ true → IsShaped (payload_of request) (span request size)
+pub shaped-request : (request : Request) (size : ℕ) → is_change request ≡ true → IsShaped (payload_of request) (span request size)
 shaped-request (requests.Write offset bytes) size h =
     let some = some_bytes (length bytes) _ h in
     let is = between-some offset (offset + length bytes) (omega arith) in

@@ -5,6 +5,7 @@ use Rattle.std.proofs.lemmas.Bool.{cases_lt}
 use Rattle.std.proofs.lemmas.Bool.Decides.{nat_tests}
 use Rattle.std.proofs.lemmas.Grind.{get_or-set_at}
 use Rattle.std.proofs.lemmas.List.{get_or-drop, get_or-take, get_or_past}
+use Rattle.cfs_file.specs.declared.span.Span.TheVariants.{Range}
 use Rattle.cfs_file.specs.Span.{Holds, meets}
 use Rattle.cfs_core.specs.declared.block.TheConstants.{BLOCK, BLOCKS}
 use Rattle.cfs_core.specs.declared.flag.Flag.{Flag}
@@ -13,13 +14,13 @@ use Rattle.cfs_core.specs.declared.stretch.Stretch.{Stretch}
 use Rattle.cfs_core.specs.declared.inode_core.Core.{Core}
 use Rattle.cfs_core.specs.Words.{blank, block_span, is_live, is_lent, is_off, is_on}
 use Rattle.cfs_core.specs.Medium.{is_loose, is_size, rests, rests_as}
-use Rattle.cfs_core.specs.May.{doubt_meets, has_live_in, in_block, is_written, is_zero_block, may_tag, may_trim}
+use Rattle.cfs_core.specs.May.{doubt_meets, has_live_in, in_block, is_mapped, is_written, is_zero_block, may_tag, may_trim}
 use Rattle.cfs_core.specs.After.{with_tag}
 use Rattle.cfs_core.proofs.Apart.{any_none, live_only, not_true}
 use Rattle.cfs_core.proofs.Kept.{IsFree, IsKept, IsLive, IsStored, IsView, at, byte_of, file_at, is_short}
 use Rattle.cfs_core.proofs.Legal.{both}
 use Rattle.cfs_core.proofs.Moments.{or_right}
-use Rattle.cfs_core.proofs.Order.{same_or_not}
+use Rattle.cfs_core.proofs.Order.{in_range, same_or_not}
 use Rattle.cfs_core.proofs.StoredFrames.{in_tracks, no_clash, quiet_follows, quiet_same, same_number, same_test, stored-follows}
 use Rattle.cfs_core.proofs.StoredWrites.{meet_at}
 
@@ -63,6 +64,11 @@ zero_part bytes from n p h low high = elim (cases_lt p (length bytes)) [
       sym (first ∙ then_) ∙ same_number (get_or (take n (drop from bytes)) i 0) 0 (all_at (λ b. b == 0) (take n (drop from bytes)) i h inside)
   | inr past ↦ get_or_past bytes p 0 past
 ]
+
+-- the blocks of a write that is mapped are tagged
+pub mapped_at : (tags : List Flag) (from to p : ℕ) → is_mapped tags (Range from to) ≡ true → from ≤ p → p < to → is_on (get_or tags (p / BLOCK) Off) ≡ true
+mapped_at tags from to p h low high =
+    in_range (λ k. is_on (get_or tags k Off)) (from / BLOCK) ((to - 1) / BLOCK + 1 - from / BLOCK) (p / BLOCK) h (omega arith) (omega arith)
 
 -- ---- a tag is set
 
