@@ -75,8 +75,8 @@ logged_admit core entry grant false ordered old h =
     logged_beside core (Some (record { entry = entry; grant = grant; span = span_now core entry.request; gate = Unsure }))
     core.size core.sizes core.tags core.bytes core.loose core.crashed old old.mapped
     (λ d is.
-      let same : d ≡ record { entry = entry; grant = grant; span = span_now core entry.request; gate = Unsure } = cc in
-      rw same (record { change = change.0; span_is = refl; mapped = blocks.1; fits = at_most _ _ blocks.0 }))
+    let same : d ≡ record { entry = entry; grant = grant; span = span_now core entry.request; gate = Unsure } = cc in
+    rw same (record { change = change.0; span_is = refl; mapped = blocks.1; fits = at_most _ _ blocks.0 }))
 
 logged_query : (core : Core) (entry : Entry) → IsOrdered core → IsLogged core → may_admit_read core entry ≡ true →
     IsLogged (logged core entry (query_track (span_now core entry.request)))
@@ -147,8 +147,10 @@ logged_dispatch core place old h =
       span = refl;
       live = λ live. waiting_live (track core.tracks place).state waiting.0;
       asks = λ asks. cc;
-      busy = λ busy. inr (waiting_live (track core.tracks place).state waiting.0,
-        clear some (not_true (meets_read core.tracks place (track core.tracks place).span) unread.0));
+      busy = λ busy. inr (
+        waiting_live (track core.tracks place).state waiting.0,
+        clear some (not_true (meets_read core.tracks place (track core.tracks place).span) unread.0),
+      );
       idle = λ block applied. rw applied refl;
       mark = covered_at core place old some;
       falls = λ live. inl refl;
@@ -379,9 +381,11 @@ sure_at : (core : Core) (image : Image) (k : ℕ) →
     ⊎ ((get_or (sure_tracks core.tracks image.gates image.marks) k blank ≡ blank) × (get_or core.tracks k blank ≡ blank))
 sure_at core image k = elim (cases_lt k (length core.tracks)) [
   | inl within ↦ inl (within, get_or-map-range_with_len (λ n. sure_track (get_or core.tracks n blank) (get_or image.gates n false) (get_or image.marks n false)) 0 (length core.tracks) k k blank within (omega arith))
-  | inr past ↦ inr (get_or_past (sure_tracks core.tracks image.gates image.marks) k blank
-      (omega (arith, length-map-range_with_len (λ n. sure_track (get_or core.tracks n blank) (get_or image.gates n false) (get_or image.marks n false)) 0 (length core.tracks))),
-    get_or_past core.tracks k blank past)
+  | inr past ↦ inr (
+    get_or_past (sure_tracks core.tracks image.gates image.marks) k blank
+        (omega (arith, length-map-range_with_len (λ n. sure_track (get_or core.tracks n blank) (get_or image.gates n false) (get_or image.marks n false)) 0 (length core.tracks))),
+    get_or_past core.tracks k blank past,
+  )
 ]
 
 follows_crash : (core : Core) (image : Image) → IsLogged core → is_image core image ≡ true → Follows core (sure_tracks core.tracks image.gates image.marks)
@@ -433,14 +437,14 @@ logged_crash core image old h =
     (sure_doubt core.doubt image.doubt) image.size [] (map (λ bit. flag_of bit) image.tags) image.bytes [] true sure
     (λ k live. mapped_still core.tags (map (λ bit. flag_of bit) image.tags) _ (λ j low high on. tag_stays core image j h on) (sure.mapped k live))
     (λ d is.
-      let was = sure_doubt_is core.doubt image.doubt d is in
-      let before = old.doubtful was.0 was.1.0 in
-      rw was.1.1 (record {
-        change = before.change;
-        span_is = before.span_is;
-        mapped = mapped_still core.tags (map (λ bit. flag_of bit) image.tags) was.0.span (λ j low high on. tag_stays core image j h on) before.mapped;
-        fits = before.fits;
-      }))
+    let was = sure_doubt_is core.doubt image.doubt d is in
+    let before = old.doubtful was.0 was.1.0 in
+    rw was.1.1 (record {
+      change = before.change;
+      span_is = before.span_is;
+      mapped = mapped_still core.tags (map (λ bit. flag_of bit) image.tags) was.0.span (λ j low high on. tag_stays core image j h on) before.mapped;
+      fits = before.fits;
+    }))
 
 -- nothing is logged or in doubt
 logged_nothing : (base : List ℕ) (log : List Entry) (tracks : List Track) (doubt : Option Doubt) (size : ℕ) (sizes : List ℕ) (tags : List Flag) (bytes : List ℕ)

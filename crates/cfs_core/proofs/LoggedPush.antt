@@ -171,9 +171,13 @@ logged_push core entry t kept joins = record {
     order_within v i p low view less live alters =
         let in_log : i < length core.log = omega arith in
         let found = kept.order v i p view less (rw (track_old i in_log) at live) (old_alters i p in_log alters) in
-        let found_in : found.0 < length core.log = omega (arith, found.1.1.0) in
-        (found.0, (rw (track_old found.0 found_in) found.1.0,
-          (found.1.1.0, new_alters found.0 p found_in found.1.1.1, λ j later before also. found.1.1.2 j later before (old_alters j p (omega arith) also))))
+        let found_in : found.0 < length core.log = omega (arith, found.1.1.0) in (
+          found.0,
+          (
+            rw (track_old found.0 found_in) found.1.0,
+            (found.1.1.0, new_alters found.0 p found_in found.1.1.1, λ j later before also. found.1.1.2 j later before (old_alters j p (omega arith) also)),
+          ),
+        )
 
     newest : (p : ℕ) → Alters (logged core entry t) (length core.log) p ⊎ (Alters (logged core entry t) (length core.log) p → ⊥)
     newest p = elim (cases_Bool (is_change entry.request)) [
@@ -193,10 +197,19 @@ logged_push core entry t kept joins = record {
       | inr none ↦ elim (same_or_not i (length core.log)) [
         | inl same ↦ absurd (none (rw same at alters))
         | inr other ↦
-            let found = order_within (length core.log) i p (omega arith) (inl refl) (omega arith) live alters in
-            (found.0, (found.1.0, (omega (arith, found.1.1.0), found.1.1.1, λ j later before also. elim (same_or_not j (length core.log)) [
-              | inl last ↦ none (rw last at also)
-              | inr old ↦ found.1.1.2 j later (omega arith) also
-            ])))
+            let found = order_within (length core.log) i p (omega arith) (inl refl) (omega arith) live alters in (
+              found.0,
+              (
+                found.1.0,
+                (
+                  omega (arith, found.1.1.0),
+                  found.1.1.1,
+                  λ j later before also. elim (same_or_not j (length core.log)) [
+                    | inl last ↦ none (rw last at also)
+                    | inr old ↦ found.1.1.2 j later (omega arith) also
+                  ],
+                ),
+              ),
+            )
       ]
     ]

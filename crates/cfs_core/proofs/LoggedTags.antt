@@ -44,7 +44,7 @@ needed-meets (From from) block full low high = absurd (omega arith)
 -- the tag of a block is put, where no span that counts needs the block or its tag was not on
 tag_put : (core : Core) (block : ℕ) (flag : Flag) → IsLogged core →
     ((s : Span) → IsFull s → (meets s (block_span block) ≡ true → ⊥) ⊎ (is_on (get_or core.tags block Off) ≡ false) → is_mapped core.tags s ≡ true →
-      is_mapped (set core.tags block flag) s ≡ true)
+    is_mapped (set core.tags block flag) s ≡ true)
 tag_put core block flag logged s full apart mapped =
     mapped_still core.tags (set core.tags block flag) s (λ k low high on. stays k low high on) mapped
   where
@@ -70,13 +70,13 @@ logged_tag_put core block flag logged live doubt =
     logged_beside core core.doubt core.size core.sizes (set core.tags block flag) core.bytes core.loose core.crashed logged
     (λ k is. tag_put core block flag logged (at core k).span (change-full core logged k (logged.live_changes k is)) (live k is) (logged.mapped k is))
     (λ d is.
-      let old = logged.doubtful d is in
-      record {
-        change = old.change;
-        span_is = old.span_is;
-        mapped = tag_put core block flag logged d.span (doubt-full core d old) (doubt d is) old.mapped;
-        fits = old.fits;
-      })
+    let old = logged.doubtful d is in
+    record {
+      change = old.change;
+      span_is = old.span_is;
+      mapped = tag_put core block flag logged d.span (doubt-full core d old) (doubt d is) old.mapped;
+      fits = old.fits;
+    })
 
 pub logged_tag : (core : Core) (block : ℕ) (flag : Flag) → IsLogged core → may_tag core block ≡ true → IsLogged (with_tag core block flag)
 logged_tag core block flag logged h =
