@@ -1,23 +1,21 @@
 -- A fresh core keeps the invariant.
-use Rattle.std.proofs.Common.{◌≡◌, inl, inr, ℕ, suc, zero, ◌/◌, ◌≤◌, ◌==◌, ◌&&◌, Bool, true, false, ◌||◌, Option, Some, None, List, [], ◌∷◌, length, get_or, nat_lt, arith, refl, sym, ap, ◌∙◌}
-use Rattle.std.specs.List.{list_all, slice_get}
+use Rattle.std.proofs.Common.{◌≡◌, inl, inr, ℕ, suc, zero, ◌/◌, ◌==◌, true, false, ◌||◌, List, [], ◌∷◌, length, get_or, arith, refl, ◌∙◌}
+use Rattle.std.specs.List.{list_all}
 use Rattle.std.proofs.lemmas.Bool.Decides.{nat_tests}
 use Rattle.std.proofs.lemmas.List.{get_or_past}
-use Rattle.cfs_file.specs.declared.entry.Entry.{Entry}
-use Rattle.cfs_file.specs.Log.{IsLegal, file_of}
 use Rattle.cfs_file.proofs.Logs.{IsLegal-none}
 use Rattle.cfs_core.specs.declared.block.TheConstants.{BLOCK}
-use Rattle.cfs_core.specs.declared.doubt.Doubt.{Doubt}
 use Rattle.cfs_core.specs.declared.flag.Flag.{Flag}
 use Rattle.cfs_core.specs.declared.flag.Flag.TheVariants.{Off, On, Unsure}
 use Rattle.cfs_core.specs.declared.inode_core.Core.{Core}
-use Rattle.cfs_core.specs.Words.{blank, has_block, is_live, is_off, is_unserved}
+use Rattle.cfs_core.specs.Words.{blank, is_live, is_off, is_unserved}
 use Rattle.cfs_core.specs.Medium.{file, is_size, rests}
 use Rattle.cfs_core.specs.Fresh.{IsEmpty, IsFresh, is_sure}
 use Rattle.cfs_core.proofs.Alive.{sound-empty}
-use Rattle.cfs_core.proofs.Apart.{apart-empty, is_busy}
-use Rattle.cfs_core.proofs.Kept.{IsKept, IsLive, IsLogged, IsStored, IsUnserved, IsView, at, file_at}
+use Rattle.cfs_core.proofs.Apart.{apart-empty}
+use Rattle.cfs_core.proofs.Kept.{IsKept, IsLive, IsStored, IsUnserved, IsView, at, file_at}
 use Rattle.cfs_core.proofs.Legal.{both}
+use Rattle.cfs_core.proofs.Logged.{logged-fresh}
 use Rattle.cfs_core.proofs.Moments.{and_all}
 use Rattle.cfs_core.proofs.Order.{ordered-empty}
 
@@ -29,39 +27,6 @@ none-live core fresh k live = let own : is_live blank.state ≡ true = rw (at-fr
 
 none-unserved : (core : Core) → IsFresh core → (k : ℕ) → IsUnserved core k → ⊥
 none-unserved core fresh k unserved = let own : is_unserved blank.state ≡ true = rw (at-fresh core fresh k) at unserved in cc
-
-none-busy : (core : Core) → IsFresh core → (k : ℕ) → is_busy (at core k) ≡ true → ⊥
-none-busy core fresh k busy = let own : is_busy blank ≡ true = rw (at-fresh core fresh k) at busy in cc
-
-none-logged : (core : Core) → IsFresh core → (k : ℕ) (entry : Entry) → slice_get core.log k ≡ Some entry → ⊥
-none-logged core fresh k entry is = let own : slice_get [] k ≡ Some entry = rw fresh.log at is in cc
-
-none-applied : (core : Core) → IsFresh core → (k : ℕ) → (at core k).applied ≡ true → ⊥
-none-applied core fresh k applied = let own : blank.applied ≡ true = rw (at-fresh core fresh k) at applied in cc
-
-none-marked : (core : Core) → IsFresh core → (k : ℕ) → is_off (at core k).mark ≡ false → ⊥
-none-marked core fresh k marked = let own : is_off blank.mark ≡ false = rw (at-fresh core fresh k) at marked in cc
-
-none-doubtful : (core : Core) → IsFresh core → (doubt : Doubt) → core.doubt ≡ Some doubt → ⊥
-none-doubtful core fresh doubt is = none-some core.doubt doubt fresh.doubt is
-  where
-    none-some : (o : Option Doubt) (d : Doubt) → o ≡ None → o ≡ Some d → ⊥
-    none-some o d none some = cc
-
-logged-fresh : (core : Core) → IsFresh core → IsLogged core
-logged-fresh core fresh = record {
-  kinds = λ k entry is. absurd (none-logged core fresh k entry is);
-  spans = λ k entry is. absurd (none-logged core fresh k entry is);
-  live_changes = λ k live. absurd (none-live core fresh k live);
-  busy_changes = λ k busy. absurd (none-busy core fresh k busy);
-  queries = λ k unserved. absurd (none-unserved core fresh k unserved);
-  idle = λ k block applied. absurd (none-applied core fresh k applied);
-  mapped = λ k live. absurd (none-live core fresh k live);
-  covered = λ k marked. absurd (none-marked core fresh k marked);
-  order = λ v i p view less live alters. absurd (none-live core fresh i live);
-  clear = λ v k less unserved busy. absurd (none-unserved core fresh v unserved);
-  doubtful = λ doubt is. absurd (none-doubtful core fresh doubt is);
-}
 
 file-fresh : (core : Core) → IsFresh core → (v p : ℕ) → IsView core v p → file_at core v ≡ core.base
 file-fresh core fresh v p view = elim view [

@@ -26,7 +26,7 @@ pub size-allowed : (core : Core) (image : Image) → is_image core image ≡ tru
 size-allowed core image h =
     (both (is_size core image.size) (agree core.tags image.tags && (bytes_agree core image.bytes && (gates_agree core.tracks image.gates && (marks_agree core.tracks image.marks && can_be (doubt_gate core.doubt) image.doubt)))) h).0
 
-tags_of_image : (core : Core) (image : Image) → is_image core image ≡ true → agree core.tags image.tags ≡ true
+pub tags_of_image : (core : Core) (image : Image) → is_image core image ≡ true → agree core.tags image.tags ≡ true
 tags_of_image core image h =
     let a = both (is_size core image.size) (agree core.tags image.tags && (bytes_agree core image.bytes && (gates_agree core.tracks image.gates && (marks_agree core.tracks image.marks && can_be (doubt_gate core.doubt) image.doubt)))) h in
     (both (agree core.tags image.tags) (bytes_agree core image.bytes && (gates_agree core.tracks image.gates && (marks_agree core.tracks image.marks && can_be (doubt_gate core.doubt) image.doubt))) a.1).0
@@ -143,7 +143,7 @@ reads_can Unsure = refl
 is_same : (n : ℕ) → (n == n) ≡ true
 is_same n = grind (arith, nat_tests)
 
-all_in_range : (test : ℕ → Bool) (a n : ℕ) → ((j : ℕ) → a ≤ j → j < a + n → test j ≡ true) → list_all test (range_with_len a n) ≡ true
+pub all_in_range : (test : ℕ → Bool) (a n : ℕ) → ((j : ℕ) → a ≤ j → j < a + n → test j ≡ true) → list_all test (range_with_len a n) ≡ true
 all_in_range test a zero each = refl
 all_in_range test a (suc n) each = and_all (test a) _ (each a (omega arith) (omega arith)) (all_in_range test (a + 1) n (λ j low high. each j (omega arith) (omega arith)))
 

@@ -5,9 +5,6 @@ use Rattle.std.proofs.lemmas.Bool.Decides.{nat_tests}
 use Rattle.std.proofs.lemmas.List.{get_or-drop, get_or-map, get_or-take, get_or_past, length-map}
 use Rattle.std.proofs.lemmas.List.FromFn.{get_or-map-range_with_len, length-map-range_with_len}
 use Rattle.cfs_file.specs.declared.entry.Entry.{Entry}
-use Rattle.cfs_file.specs.declared.request.Request.{Request}
-use Rattle.cfs_file.specs.declared.request.Request.TheVariants as requests
-use Rattle.cfs_file.specs.File.{effect}
 use Rattle.cfs_file.specs.Span.{meets, reaches_over}
 use Rattle.cfs_file.proofs.Spans.{meets-overlap, reaches_over-covers}
 use Rattle.cfs_core.specs.declared.block.TheConstants.{BLOCKS}
@@ -17,6 +14,7 @@ use Rattle.cfs_core.specs.declared.state.State.{State}
 use Rattle.cfs_core.specs.declared.state.State.TheVariants.{Waiting, Out, Noop, Unserved, Closed}
 use Rattle.cfs_core.specs.declared.track.Track.{Track}
 use Rattle.cfs_core.specs.declared.doubt.Doubt.{Doubt}
+use Rattle.cfs_core.specs.declared.stretch.Stretch.{Stretch}
 use Rattle.cfs_core.specs.declared.image.Image.{Image}
 use Rattle.cfs_core.specs.declared.event.Event.{Event}
 use Rattle.cfs_core.specs.declared.event.Event.TheVariants as events
@@ -26,30 +24,25 @@ use Rattle.cfs_core.specs.declared.event.SizeEnd.{SizeEnd}
 use Rattle.cfs_core.specs.declared.event.SizeEnd.TheVariants as sizes
 use Rattle.cfs_core.specs.declared.inode_core.Core.{Core}
 use Rattle.cfs_core.specs.Words.{blank, can_be, flag_of, has_block, is_live, is_noop, is_off, is_on, is_out, is_unserved, is_waiting, sized, track}
+use Rattle.cfs_core.specs.Fresh.{IsFresh}
 use Rattle.cfs_core.specs.Jobs.{next_job, state_flushed, state_written}
-use Rattle.cfs_core.specs.Medium.{agree, allow_bits, file, image_now, is_image, is_size, recovered}
+use Rattle.cfs_core.specs.Medium.{allow_bits, file, image_now, is_image, recovered}
 use Rattle.cfs_core.specs.May.{case, fits, is_change, is_mapped, is_next, is_query, may_admit, may_admit_read, may_dispatch, may_mark, meets_live, meets_read, needed_between, span_now}
 use Rattle.cfs_core.specs.After.{admitted, after, block_written, change_track, crashed_to, finished, flushed, logged, marked, more_to_come, mounted, put_back, query_track, retired, sure_doubt, sure_track, sure_tracks, with_size, with_state, with_track}
 use Rattle.cfs_core.proofs.Legal.{at_most, both}
 use Rattle.cfs_core.proofs.Moments.{or_right}
-use Rattle.cfs_core.proofs.Order.{IsOrdered, first_of_and, in_range, mark_allowed, same_or_not, serves, some_place, track_is, writes}
+use Rattle.cfs_core.proofs.Order.{IsOrdered, first_of_and, mark_allowed, same_or_not, serves, some_place, track_is, writes}
 use Rattle.cfs_core.proofs.Apart.{AreApart, any_none, block_out, is_busy, live_only, none_before, not_true, out_busy, out_live, waiting_live}
 use Rattle.cfs_core.proofs.Kept.{IsKept, IsLive, IsLogged, IsUnserved, at}
+use Rattle.cfs_core.proofs.Registers.{query-effect, query-no_change}
+use Rattle.cfs_core.proofs.Images.{tag-allowed, tags_of_image}
+use Rattle.cfs_core.proofs.Recovers.{live-within}
+use Rattle.cfs_core.proofs.StoredFrames.{no_clash}
 use Rattle.cfs_core.proofs.LoggedFrames.{Follows, IsAlone, IsClear, IsCovered, logged_beside, logged_follows, logged_medium, logged_put}
 use Rattle.cfs_core.proofs.LoggedPush.{logged_push}
 use Rattle.cfs_core.proofs.LoggedTags.{logged_tag, logged_trim, mapped_still}
 
-clash : (b : Bool) → b ≡ true → b ≡ false → ⊥
-clash b on off = cc
-
 -- ---- admission
-
-query_changes_nothing : (file : List ℕ) (request : Request) → is_query request ≡ true → (false ≡ is_change request) × (effect file request ≡ file)
-query_changes_nothing file (requests.Write offset bytes) h = cc
-query_changes_nothing file (requests.Append bytes) h = cc
-query_changes_nothing file (requests.Truncate n) h = cc
-query_changes_nothing file (requests.Read offset count) h = (refl, refl)
-query_changes_nothing file requests.Sync h = (refl, refl)
 
 none_some : (o : Option Doubt) (d : Doubt) → is_none o ≡ true → o ≡ Some d → ⊥
 none_some None d none is = cc
@@ -82,25 +75,24 @@ logged_admit core entry grant false ordered old h =
     logged_beside core (Some (record { entry = entry; grant = grant; span = span_now core entry.request; gate = Unsure }))
     core.size core.sizes core.tags core.bytes core.loose core.crashed old old.mapped
     (λ d is.
-      let same : d ≡ record { entry = entry; grant = grant; span = span_now core entry.request; gate = Unsure } = cc in
-      rw same (record { change = change.0; span_is = refl; mapped = blocks.1; fits = at_most _ _ blocks.0 }))
+    let same : d ≡ record { entry = entry; grant = grant; span = span_now core entry.request; gate = Unsure } = cc in
+    rw same (record { change = change.0; span_is = refl; mapped = blocks.1; fits = at_most _ _ blocks.0 }))
 
 logged_query : (core : Core) (entry : Entry) → IsOrdered core → IsLogged core → may_admit_read core entry ≡ true →
     IsLogged (logged core entry (query_track (span_now core entry.request)))
 logged_query core entry ordered old h =
     let query = both (is_next core entry) (is_query entry.request) h in
-    let nothing = query_changes_nothing (file core) entry.request query.1 in
     logged_push core entry (query_track (span_now core entry.request)) old (record {
       same = ordered.same;
       span = refl;
       kind = inr query.1;
-      live = nothing.0;
+      live = sym (query-no_change entry.request query.1);
       asks = λ asks. query.1;
       idle = refl;
       unapplied = refl;
       unmarked = refl;
       mapped = λ live. cc;
-      doubt = λ d is. nothing.1;
+      doubt = λ d is. query-effect entry.request (file core) query.1;
     })
 
 -- ---- one track is put
@@ -155,8 +147,10 @@ logged_dispatch core place old h =
       span = refl;
       live = λ live. waiting_live (track core.tracks place).state waiting.0;
       asks = λ asks. cc;
-      busy = λ busy. inr (waiting_live (track core.tracks place).state waiting.0,
-        clear some (not_true (meets_read core.tracks place (track core.tracks place).span) unread.0));
+      busy = λ busy. inr (
+        waiting_live (track core.tracks place).state waiting.0,
+        clear some (not_true (meets_read core.tracks place (track core.tracks place).span) unread.0),
+      );
       idle = λ block applied. rw applied refl;
       mark = covered_at core place old some;
       falls = λ live. inl refl;
@@ -178,7 +172,7 @@ logged_job core place block state old h out =
       live = λ live. out_live (track core.tracks place).state was_out;
       asks = λ asks. absurd (unserved_dead state asks (out_live state out));
       busy = λ busy. inl (out_busy (track core.tracks place) was_out);
-      idle = λ other applied. absurd (clash (has_block (track core.tracks place).state block) h (idle_at core place block old some applied));
+      idle = λ other applied. absurd (no_clash (has_block (track core.tracks place).state block) h (idle_at core place block old some applied));
       mark = covered_at core place old some;
       falls = λ live. inl (out_live state out);
     })
@@ -218,19 +212,10 @@ logged_retired core place apart old out =
     alone : track core.tracks place ≡ get_or core.tracks (place - 1) blank → IsAlone core (place - 1)
     alone was v i p view last less live alters =
         let busy : is_busy (at core (place - 1)) ≡ true = out_busy (at core (place - 1)) (rw was at out) in
-        clash (meets (at core i).span (at core (place - 1)).span)
+        no_clash (meets (at core i).span (at core (place - 1)).span)
         ((meets-overlap (at core i).span (at core (place - 1)).span).1 (p, (alters.1, last.1.1))) (apart i (place - 1) less live busy)
 
 -- ---- marks
-
-live_within : (core : Core) (k : ℕ) → IsLive core k → k < length core.tracks
-live_within core k live = elim (cases_lt k (length core.tracks)) [
-  | inl within ↦ within
-  | inr past ↦
-      let empty : get_or core.tracks k blank ≡ blank = get_or_past core.tracks k blank past in
-      let own : is_live blank.state ≡ true = rw empty at live in
-      cc
-]
 
 -- What a mark has tested, at indices.
 record Marks (core : Core) (place by : ℕ) : Type 0 where
@@ -273,11 +258,11 @@ alone_marked core place by ordered old marks v i p view last less live alters = 
   | inl before ↦ last.2 (by - 1) marks.later before
       (old.live_changes (by - 1) marks.live, (reaches_over-covers (at core (by - 1)).span (at core (place - 1)).span).0 marks.reaches p last.1.1)
   | inr up ↦ elim view [
-    | inl end ↦ absurd (omega (arith, ordered.same, live_within core (by - 1) marks.live))
+    | inl end ↦ absurd (omega (arith, live-within core old (by - 1) marks.live))
     | inr asked ↦ elim (same_or_not v (by - 1)) [
       | inl same ↦ unserved_dead (at core v).state asked.0 (rw same marks.live)
       | inr other ↦
-          clash (meets (at core v).span (at core (place - 1)).span)
+          no_clash (meets (at core v).span (at core (place - 1)).span)
           ((meets-overlap (at core v).span (at core (place - 1)).span).1 (p, (asked.1, last.1.1)))
           (unread (above marks.some last.0) (omega arith) asked.0)
     ]
@@ -290,7 +275,7 @@ alone_marked core place by ordered old marks v i p view last less live alters = 
     unread : place ≤ v → v < by - 1 → IsUnserved core v → meets (at core v).span (at core (place - 1)).span ≡ false
     unread from_place before asks =
         let was : track core.tracks place ≡ get_or core.tracks (place - 1) blank = track_is core.tracks place (place - 1) marks.some refl in
-        let within : by - 1 < length core.tracks = live_within core (by - 1) marks.live in
+        let within : by - 1 < length core.tracks = omega (arith, ordered.same, live-within core old (by - 1) marks.live) in
         let dropped : get_or (drop place (take (by - 1) core.tracks)) (v - place) blank ≡ get_or (take (by - 1) core.tracks) (place + (v - place)) blank =
         get_or-drop place (take (by - 1) core.tracks) (v - place) blank in
         let there : place + (v - place) ≡ v = omega arith in
@@ -396,9 +381,11 @@ sure_at : (core : Core) (image : Image) (k : ℕ) →
     ⊎ ((get_or (sure_tracks core.tracks image.gates image.marks) k blank ≡ blank) × (get_or core.tracks k blank ≡ blank))
 sure_at core image k = elim (cases_lt k (length core.tracks)) [
   | inl within ↦ inl (within, get_or-map-range_with_len (λ n. sure_track (get_or core.tracks n blank) (get_or image.gates n false) (get_or image.marks n false)) 0 (length core.tracks) k k blank within (omega arith))
-  | inr past ↦ inr (get_or_past (sure_tracks core.tracks image.gates image.marks) k blank
-      (omega (arith, length-map-range_with_len (λ n. sure_track (get_or core.tracks n blank) (get_or image.gates n false) (get_or image.marks n false)) 0 (length core.tracks))),
-    get_or_past core.tracks k blank past)
+  | inr past ↦ inr (
+    get_or_past (sure_tracks core.tracks image.gates image.marks) k blank
+        (omega (arith, length-map-range_with_len (λ n. sure_track (get_or core.tracks n blank) (get_or image.gates n false) (get_or image.marks n false)) 0 (length core.tracks))),
+    get_or_past core.tracks k blank past,
+  )
 ]
 
 follows_crash : (core : Core) (image : Image) → IsLogged core → is_image core image ≡ true → Follows core (sure_tracks core.tracks image.gates image.marks)
@@ -415,12 +402,7 @@ follows_crash core image old h = record {
   falls = λ k live. inl (elim (sure_at core image k) [ inl now ↦ rw now.1 live | inr none ↦ rw none.0 (rw none.1 at live) ]);
 }
 
-tags_of_image : (core : Core) (image : Image) → is_image core image ≡ true → agree core.tags image.tags ≡ true
-tags_of_image core image h =
-    let rest = both (is_size core image.size) _ h in
-    (both (agree core.tags image.tags) _ rest.1).0
-
-pub as_many_tags : (core : Core) (image : Image) → is_image core image ≡ true → length image.tags ≡ length core.tags
+as_many_tags : (core : Core) (image : Image) → is_image core image ≡ true → length image.tags ≡ length core.tags
 as_many_tags core image h =
     let test = (both (length image.tags == length core.tags) (allow_bits core.tags image.tags) (tags_of_image core image h)).0 in
     grind (arith, nat_tests)
@@ -432,9 +414,7 @@ tag_stays core image k h on = elim (cases_lt k (length core.tags)) [
   | inl within ↦
       let now : get_or (map (λ bit. flag_of bit) image.tags) k Off ≡ flag_of (get_or image.tags k false) =
       get_or-map (λ bit. flag_of bit) image.tags k false Off (omega (arith, as_many_tags core image h)) in
-      let can = in_range (λ j. can_be (get_or core.tags j Off) (get_or image.tags j false)) 0 (length core.tags) k
-      (both (length image.tags == length core.tags) (allow_bits core.tags image.tags) (tags_of_image core image h)).1 (omega arith) (omega arith) in
-      rw now (on_stays (get_or core.tags k Off) (get_or image.tags k false) can on)
+      rw now (on_stays (get_or core.tags k Off) (get_or image.tags k false) (tag-allowed core image k h) on)
   | inr past ↦
       let empty : get_or core.tags k Off ≡ Off = get_or_past core.tags k Off past in
       let own : is_on Off ≡ true = rw empty at on in
@@ -457,17 +437,20 @@ logged_crash core image old h =
     (sure_doubt core.doubt image.doubt) image.size [] (map (λ bit. flag_of bit) image.tags) image.bytes [] true sure
     (λ k live. mapped_still core.tags (map (λ bit. flag_of bit) image.tags) _ (λ j low high on. tag_stays core image j h on) (sure.mapped k live))
     (λ d is.
-      let was = sure_doubt_is core.doubt image.doubt d is in
-      let before = old.doubtful was.0 was.1.0 in
-      rw was.1.1 (record {
-        change = before.change;
-        span_is = before.span_is;
-        mapped = mapped_still core.tags (map (λ bit. flag_of bit) image.tags) was.0.span (λ j low high on. tag_stays core image j h on) before.mapped;
-        fits = before.fits;
-      }))
+    let was = sure_doubt_is core.doubt image.doubt d is in
+    let before = old.doubtful was.0 was.1.0 in
+    rw was.1.1 (record {
+      change = before.change;
+      span_is = before.span_is;
+      mapped = mapped_still core.tags (map (λ bit. flag_of bit) image.tags) was.0.span (λ j low high on. tag_stays core image j h on) before.mapped;
+      fits = before.fits;
+    }))
 
-logged_mount : (core : Core) (found : List ℕ) → IsLogged (mounted core found)
-logged_mount core found = record {
+-- nothing is logged or in doubt
+logged_nothing : (base : List ℕ) (log : List Entry) (tracks : List Track) (doubt : Option Doubt) (size : ℕ) (sizes : List ℕ) (tags : List Flag) (bytes : List ℕ)
+    (loose : List Stretch) (crashed : Bool) → log ≡ [] → tracks ≡ [] → doubt ≡ None →
+    IsLogged (record { base = base; log = log; tracks = tracks; doubt = doubt; size = size; sizes = sizes; tags = tags; bytes = bytes; loose = loose; crashed = crashed })
+logged_nothing base log tracks doubt size sizes tags bytes loose crashed no_log no_tracks no_doubt = rw (no_log, no_tracks, no_doubt) (record {
   kinds = λ k entry is. cc;
   spans = λ k entry is. cc;
   live_changes = λ k live. cc;
@@ -475,39 +458,46 @@ logged_mount core found = record {
   queries = λ k asks. cc;
   idle = λ k block applied. cc;
   mapped = λ k live. cc;
-  covered = λ k off. absurd (clash true refl off);
-  order = λ v i p view less live alters. absurd (clash false live refl);
+  covered = λ k off. absurd (no_clash true refl off);
+  order = λ v i p view less live alters. absurd (no_clash false live refl);
   clear = λ v k less asks busy. cc;
   doubtful = λ d is. absurd (none_some None d refl is);
-}
+})
+
+logged_mount : (core : Core) (found : List ℕ) → IsLogged (mounted core found)
+logged_mount core found = logged_nothing found [] [] None (length found) [] core.tags found [] false refl refl refl
+
+pub logged-fresh : (core : Core) → IsFresh core → IsLogged core
+logged-fresh core fresh =
+    logged_nothing core.base core.log core.tracks core.doubt core.size core.sizes core.tags core.bytes core.loose core.crashed fresh.log fresh.tracks fresh.doubt
 
 -- ---- each event
 
-logged_step : (core : Core) (event : Event) → IsOrdered core → AreApart core → IsLogged core → case core event ≡ true → IsLogged (after core event)
-logged_step core (events.Tag block kept) ordered apart old h = logged_tag core block (if kept then On else Unsure) old h
-logged_step core (events.Admit entry grant kept) ordered apart old h = logged_admit core entry grant kept ordered old h
-logged_step core (events.AdmitRead entry) ordered apart old h = logged_query core entry ordered old h
-logged_step core (events.Serve place answer) ordered apart old h =
+pub logged-step : (core : Core) (event : Event) → IsOrdered core → AreApart core → IsLogged core → case core event ≡ true → IsLogged (after core event)
+logged-step core (events.Tag block kept) ordered apart old h = logged_tag core block (if kept then On else Unsure) old h
+logged-step core (events.Admit entry grant kept) ordered apart old h = logged_admit core entry grant kept ordered old h
+logged-step core (events.AdmitRead entry) ordered apart old h = logged_query core entry ordered old h
+logged-step core (events.Serve place answer) ordered apart old h =
     let asks = serves core place answer h in
     logged_closed core place (track core.tracks place).gate old (some_place is_unserved refl core.tracks place asks)
     (λ live. unserved_dead (track core.tracks place).state asks live)
-logged_step core (events.Mark place by kept) ordered apart old h = logged_marked core place by kept ordered old h
-logged_step core (events.Dispatch place) ordered apart old h = logged_dispatch core place old h
-logged_step core (events.BlockWrite place block left) ordered apart old h = logged_written core place block left old (writes core place block left h)
-logged_step core (events.Flush place block ok) ordered apart old h =
+logged-step core (events.Mark place by kept) ordered apart old h = logged_marked core place by kept ordered old h
+logged-step core (events.Dispatch place) ordered apart old h = logged_dispatch core place old h
+logged-step core (events.BlockWrite place block left) ordered apart old h = logged_written core place block left old (writes core place block left h)
+logged-step core (events.Flush place block ok) ordered apart old h =
     logged_flushed core place block ok old (both (nat_lt block BLOCKS) (has_block (track core.tracks place).state block) h).1
-logged_step core (events.Finish place end) ordered apart old h =
+logged-step core (events.Finish place end) ordered apart old h =
     logged_finished core place end apart old (first_of_and (is_out (track core.tracks place).state) _ h)
-logged_step core (events.Skip place) ordered apart old h =
+logged-step core (events.Skip place) ordered apart old h =
     logged_closed core place Off old (some_place is_noop refl core.tracks place h) (λ live. noop_dead (track core.tracks place).state h live)
-logged_step core (events.Trim block kept) ordered apart old h = logged_trim core block (if kept then Off else Unsure) old h
-logged_step core events.Settle ordered apart old h =
+logged-step core (events.Trim block kept) ordered apart old h = logged_trim core block (if kept then Off else Unsure) old h
+logged-step core events.Settle ordered apart old h =
     logged_beside core None core.size core.sizes core.tags core.bytes core.loose core.crashed old old.mapped (λ d is. absurd (none_some None d refl is))
-logged_step core (events.Crash image) ordered apart old h = logged_crash core image old h
-logged_step core events.Mount ordered apart old h = logged_mount core (recovered core (image_now core))
+logged-step core (events.Crash image) ordered apart old h = logged_crash core image old h
+logged-step core events.Mount ordered apart old h = logged_mount core (recovered core (image_now core))
 
 pub logged-after : (core : Core) (event : Event) → IsKept core → case core event ≡ true → IsLogged (after core event)
-logged-after core event kept h = logged_step core event kept.ordered kept.apart kept.logged h
+logged-after core event kept h = logged-step core event kept.ordered kept.apart kept.logged h
 
 -- the tags are as many as before
 pub blocks-after : (core : Core) (event : Event) → IsKept core → case core event ≡ true → length (after core event).tags ≡ BLOCKS

@@ -1,15 +1,12 @@
 -- A logged entry keeps the log's part of the invariant: it is the last at its positions.
-use Rattle.std.proofs.Common.{◌≡◌, ◌⊎◌, inl, inr, ℕ, suc, zero, ◌+◌, ◌-◌, ◌<◌, ◌≤◌, Bool, true, false, not, Some, None, List, [], ◌∷◌, ◌++◌, length, take, get_or, arith, refl, sym, ◌∙◌, length-append}
+use Rattle.std.proofs.Common.{◌≡◌, ◌⊎◌, inl, inr, ℕ, suc, zero, ◌+◌, ◌-◌, ◌<◌, ◌≤◌, Bool, true, false, not, Some, List, [], ◌∷◌, ◌++◌, length, take, get_or, arith, refl, sym, ◌∙◌, length-append}
 use Rattle.std.specs.List.{slice_get}
-use Rattle.std.proofs.lemmas.Bool.{cases_lt}
+use Rattle.std.proofs.lemmas.Bool.{cases_Bool, cases_lt}
 use Rattle.std.proofs.lemmas.List.{get_or_append_left, get_or-append_right, get_or_past, take_all}
-use Rattle.std.proofs.lemmas.Option.{slice_get_past}
 use Rattle.cfs_file.specs.declared.entry.Entry.{Entry}
-use Rattle.cfs_file.specs.declared.span.Span.{Span}
-use Rattle.cfs_file.specs.declared.span.Span.TheVariants.{Nothing, Range, From}
 use Rattle.cfs_file.specs.File.{effect}
 use Rattle.cfs_file.specs.Log.{file_of}
-use Rattle.cfs_file.specs.Span.{Holds, span}
+use Rattle.cfs_file.specs.Span.{span}
 use Rattle.cfs_file.proofs.Logs.{file_of-append, slice_get-snoc, take-snoc_within}
 use Rattle.cfs_core.specs.declared.track.Track.{Track}
 use Rattle.cfs_core.specs.declared.doubt.Doubt.{Doubt}
@@ -20,7 +17,9 @@ use Rattle.cfs_core.specs.May.{is_change, is_mapped, is_query}
 use Rattle.cfs_core.specs.After.{logged}
 use Rattle.cfs_core.proofs.Apart.{is_busy, not_true}
 use Rattle.cfs_core.proofs.Order.{same_or_not}
-use Rattle.cfs_core.proofs.Kept.{Alters, IsChange, IsLast, IsLive, IsLogged, IsView, at, is_changing}
+use Rattle.cfs_core.proofs.Kept.{Alters, IsChange, IsLast, IsLive, IsLogged, IsView, at}
+use Rattle.cfs_core.proofs.Registers.{change-within, holds-or-not}
+use Rattle.cfs_core.proofs.StoredFrames.{no_clash}
 use Rattle.cfs_core.proofs.LoggedFrames.{IsCovered}
 
 -- ---- lists with one element more
@@ -55,18 +54,6 @@ tested test none tracks t k h = elim (cases_lt k (length tracks)) [
   ]
 ]
 
-holds_or_not : (s : Span) (p : ℕ) → Holds s p ⊎ (Holds s p → ⊥)
-holds_or_not Nothing p = inr (λ h. h)
-holds_or_not (Range from to) p = elim (cases_lt p from) [
-  | inl before ↦ inr (λ h. let low : from ≤ p = h.0 in omega arith)
-  | inr up ↦ elim (cases_lt p to) [ inl within ↦ inl (up, within) | inr past ↦ inr (λ h. let high : p < to = h.1 in omega arith) ]
-]
-holds_or_not (From from) p = elim (cases_lt p from) [ inl before ↦ inr (λ h. let low : from ≤ p = h in omega arith) | inr up ↦ inl up ]
-
-true_or_false : (b : Bool) → (b ≡ true) ⊎ (b ≡ false)
-true_or_false true = inl refl
-true_or_false false = inr refl
-
 -- What is kept of an entry that is logged.
 pub record Joins (core : Core) (entry : Entry) (t : Track) : Type 0 where
   pub same : length core.tracks ≡ length core.log
@@ -93,7 +80,7 @@ logged_push core entry t kept joins = record {
   live_changes = live_changes;
   busy_changes = λ k busy. elim (tested is_busy refl core.tracks t k busy) [
     | inl old ↦ new_change k (kept.busy_changes k old.1)
-    | inr last ↦ absurd (clash (is_busy t) last.1 joins.idle)
+    | inr last ↦ absurd (no_clash (is_busy t) last.1 joins.idle)
   ];
   queries = λ k asks. elim (tested (λ x. is_unserved x.state) refl core.tracks t k asks) [
     | inl old ↦ rw (slice_get-snoc_within core.log entry k (omega (arith, joins.same, old.0))) (kept.queries k old.1)
@@ -101,7 +88,7 @@ logged_push core entry t kept joins = record {
   ];
   idle = λ k block applied. elim (tested (λ x. x.applied) refl core.tracks t k applied) [
     | inl old ↦ rw (get_or_append_left core.tracks (t ∷ []) blank k old.0) (kept.idle k block old.1)
-    | inr last ↦ absurd (clash t.applied last.1 joins.unapplied)
+    | inr last ↦ absurd (no_clash t.applied last.1 joins.unapplied)
   ];
   mapped = λ k live. elim (tested (λ x. is_live x.state) refl core.tracks t k live) [
     | inl old ↦ rw (get_or_append_left core.tracks (t ∷ []) blank k old.0) (kept.mapped k old.1)
@@ -109,7 +96,7 @@ logged_push core entry t kept joins = record {
   ];
   covered = λ k off. elim (tested (λ x. not (is_off x.mark)) refl core.tracks t k (rw off refl)) [
     | inl old ↦ new_covered k old.0 (kept.covered k (not_true (is_off (at core k).mark) old.1))
-    | inr last ↦ absurd (clash (is_off t.mark) joins.unmarked (not_true (is_off t.mark) last.1))
+    | inr last ↦ absurd (no_clash (is_off t.mark) joins.unmarked (not_true (is_off t.mark) last.1))
   ];
   order = λ v i p view less live alters. elim (cases_lt v (length core.log + 1)) [
     | inl low ↦ order_within v i p (omega arith) (old_view v p (omega arith) view) less live alters
@@ -120,7 +107,7 @@ logged_push core entry t kept joins = record {
         let in_log : k < length core.log = omega (arith, joins.same, old.0) in
         let v_in_log : v < length core.log = omega arith in
         rw (track_old v v_in_log, track_old k in_log) (kept.clear v k less (rw (track_old v v_in_log) at asks) old.1)
-    | inr last ↦ absurd (clash (is_busy t) last.1 joins.idle)
+    | inr last ↦ absurd (no_clash (is_busy t) last.1 joins.idle)
   ];
   doubtful = λ d is.
       let old = kept.doubtful d is in
@@ -129,9 +116,6 @@ logged_push core entry t kept joins = record {
       record { change = old.change; span_is = rw (whole, stays) old.span_is; mapped = old.mapped; fits = rw (whole, stays) old.fits };
 }
   where
-    clash : (b : Bool) → b ≡ true → b ≡ false → ⊥
-    clash b on off = cc
-
     track_old : (k : ℕ) → k < length core.log → get_or (core.tracks ++ t ∷ []) k blank ≡ get_or core.tracks k blank
     track_old k less = get_or_append_left core.tracks (t ∷ []) blank k (omega (arith, joins.same))
 
@@ -144,18 +128,8 @@ logged_push core entry t kept joins = record {
         let all : take (length core.log) core.log ≡ core.log = take_all (length core.log) core.log (omega arith) in
         rw (first, all) refl
 
-    -- a change stands within the log
-    within : (k : ℕ) → IsChange core k → k < length core.log
-    within k change = elim (cases_lt k (length core.log)) [
-      | inl less ↦ less
-      | inr past ↦
-          let empty : slice_get core.log k ≡ None = slice_get_past core.log k past in
-          let own : is_changing None ≡ true = rw empty at change in
-          cc
-    ]
-
     new_change : (k : ℕ) → IsChange core k → IsChange (logged core entry t) k
-    new_change k change = rw (slice_get-snoc_within core.log entry k (within k change)) change
+    new_change k change = rw (slice_get-snoc_within core.log entry k (change-within core k change)) change
 
     live_changes : (k : ℕ) → IsLive (logged core entry t) k → IsChange (logged core entry t) k
     live_changes k live = elim (tested (λ x. is_live x.state) refl core.tracks t k live) [
@@ -166,7 +140,7 @@ logged_push core entry t kept joins = record {
     new_covered : (k : ℕ) → k < length core.tracks → IsCovered core k → IsCovered (logged core entry t) k
     new_covered k less by =
         let in_log : k < length core.log = omega (arith, joins.same) in
-        (by.0, (by.1.0, (new_change by.0 by.1.1.0, rw (track_old by.0 (within by.0 by.1.1.0), track_old k in_log) by.1.1.1)))
+        (by.0, (by.1.0, (new_change by.0 by.1.1.0, rw (track_old by.0 (change-within core by.0 by.1.1.0), track_old k in_log) by.1.1.1)))
 
     old_view : (v p : ℕ) → v ≤ length core.log → IsView (logged core entry t) v p → IsView core v p
     old_view v p low view = elim view [
@@ -197,17 +171,21 @@ logged_push core entry t kept joins = record {
     order_within v i p low view less live alters =
         let in_log : i < length core.log = omega arith in
         let found = kept.order v i p view less (rw (track_old i in_log) at live) (old_alters i p in_log alters) in
-        let found_in : found.0 < length core.log = omega (arith, found.1.1.0) in
-        (found.0, (rw (track_old found.0 found_in) found.1.0,
-          (found.1.1.0, new_alters found.0 p found_in found.1.1.1, λ j later before also. found.1.1.2 j later before (old_alters j p (omega arith) also))))
+        let found_in : found.0 < length core.log = omega (arith, found.1.1.0) in (
+          found.0,
+          (
+            rw (track_old found.0 found_in) found.1.0,
+            (found.1.1.0, new_alters found.0 p found_in found.1.1.1, λ j later before also. found.1.1.2 j later before (old_alters j p (omega arith) also)),
+          ),
+        )
 
     newest : (p : ℕ) → Alters (logged core entry t) (length core.log) p ⊎ (Alters (logged core entry t) (length core.log) p → ⊥)
-    newest p = elim (true_or_false (is_change entry.request)) [
-      | inl change ↦ elim (holds_or_not t.span p) [
+    newest p = elim (cases_Bool (is_change entry.request)) [
+      | inl change ↦ elim (holds-or-not t.span p) [
         | inl holds ↦ inl (rw (slice_get-snoc_last core.log entry) change, rw track_last holds)
         | inr none ↦ inr (λ alters. none (rw track_last at alters.1))
       ]
-      | inr query ↦ inr (λ alters. clash (is_change entry.request) (rw (slice_get-snoc_last core.log entry) at alters.0) query)
+      | inr query ↦ inr (λ alters. no_clash (is_change entry.request) (rw (slice_get-snoc_last core.log entry) at alters.0) query)
     ]
 
     order_last : (v i p : ℕ) → v ≡ length core.log + 1 → i < v → IsLive (logged core entry t) i → Alters (logged core entry t) i p →
@@ -219,10 +197,19 @@ logged_push core entry t kept joins = record {
       | inr none ↦ elim (same_or_not i (length core.log)) [
         | inl same ↦ absurd (none (rw same at alters))
         | inr other ↦
-            let found = order_within (length core.log) i p (omega arith) (inl refl) (omega arith) live alters in
-            (found.0, (found.1.0, (omega (arith, found.1.1.0), found.1.1.1, λ j later before also. elim (same_or_not j (length core.log)) [
-              | inl last ↦ none (rw last at also)
-              | inr old ↦ found.1.1.2 j later (omega arith) also
-            ])))
+            let found = order_within (length core.log) i p (omega arith) (inl refl) (omega arith) live alters in (
+              found.0,
+              (
+                found.1.0,
+                (
+                  omega (arith, found.1.1.0),
+                  found.1.1.1,
+                  λ j later before also. elim (same_or_not j (length core.log)) [
+                    | inl last ↦ none (rw last at also)
+                    | inr old ↦ found.1.1.2 j later (omega arith) also
+                  ],
+                ),
+              ),
+            )
       ]
     ]
