@@ -9,7 +9,9 @@ pub mod Order
 pub mod Registers
 pub mod Runs
 pub mod Sizes
+pub mod StoredAdmit
 pub mod StoredCrash
+pub mod StoredFinish
 pub mod StoredFrames
 pub mod StoredQuiet
 pub mod StoredMark
