@@ -18,7 +18,9 @@ pub mod Registers
 pub mod Runs
 pub mod Served
 pub mod Sizes
+pub mod StoredAdmit
 pub mod StoredCrash
+pub mod StoredFinish
 pub mod StoredFrames
 pub mod StoredQuiet
 pub mod StoredMark
