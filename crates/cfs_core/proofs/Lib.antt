@@ -9,6 +9,7 @@ pub mod Order
 pub mod Registers
 pub mod Runs
 pub mod Sizes
+pub mod Stored
 pub mod StoredAdmit
 pub mod StoredCrash
 pub mod StoredFinish
