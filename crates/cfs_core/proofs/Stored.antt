@@ -1,5 +1,5 @@
 -- Each event keeps what is stored.
-use Rattle.std.proofs.Common.{◌≡◌, true, false, if◌then◌else◌}
+use Rattle.std.proofs.Common.{◌≡◌, true, false, if◌then◌else◌, None}
 use Rattle.cfs_core.specs.declared.flag.Flag.TheVariants.{Off, On, Unsure}
 use Rattle.cfs_core.specs.declared.event.Event.{Event}
 use Rattle.cfs_core.specs.declared.event.Event.TheVariants as events
@@ -16,7 +16,6 @@ use Rattle.cfs_core.proofs.StoredMark.{stored_mark}
 use Rattle.cfs_core.proofs.StoredQuiet.{stored_dispatch, stored_doubt, stored_serve, stored_skip, stored_unmarked}
 use Rattle.cfs_core.proofs.StoredTags.{stored_tag, stored_trim}
 use Rattle.cfs_core.proofs.StoredWrites.{stored_flush, stored_write}
-use Rattle.std.specs.Prelude.{None}
 
 pub stored-after : (core : Core) (event : Event) → IsKept core → case core event ≡ true → IsStored (after core event)
 stored-after core (events.Tag block kept) k h = stored_tag core block (if kept then On else Unsure) k h

@@ -29,8 +29,8 @@ use Rattle.cfs_core.proofs.Kept.{Alters, IsChange, IsFree, IsKept, IsLast, IsLiv
 use Rattle.cfs_core.proofs.Legal.{both}
 use Rattle.cfs_core.proofs.Moments.{or_right}
 use Rattle.cfs_core.proofs.Order.{in_range, same_or_not, some_place, track_is}
-use Rattle.cfs_core.proofs.Registers.{IsFull, alters-or-not, change-full, change-within, clash, file_at-all, file_at-last, find-decider, longer-last}
-use Rattle.cfs_core.proofs.StoredFrames.{IsStill, IsTamer, StayLive, at_put, in_tracks, no_clash, same_number, same_test, still_altered, still_alters, still_byte, still_file, still_file_at, still_free, still_none, still_view, tamer_same, tamer_still}
+use Rattle.cfs_core.proofs.Registers.{IsFull, alters-or-not, change-full, change-within, clash, file_at-all, file_at-last, find-decider, if_none, longer-last}
+use Rattle.cfs_core.proofs.StoredFrames.{IsStill, IsTamer, StayLive, at_put, in_tracks, no_clash, now_size, only_size, or_cases, same_number, still_altered, still_alters, still_byte, still_file, still_file_at, still_free, still_none, still_view, tamer_same, tamer_still}
 use Rattle.cfs_core.proofs.StoredQuiet.{stored_more}
 use Rattle.cfs_core.proofs.StoredTags.{mapped_at}
 use Rattle.cfs_core.proofs.StoredWrites.{applied_busy, meet_at, not_free}
@@ -47,13 +47,9 @@ sized_byte bytes Nothing size p past holds = refl
 sized_byte bytes (Range from to) size p past holds = absurd (omega arith)
 sized_byte bytes (From from) size p past holds = refl
 
-undecided : (b : Bool) → (if b then Some true else None) ≡ None → b ≡ false
-undecided true is = cc
-undecided false is = refl
-
 sized_kept : (size : ℕ) (of : Span) (p : ℕ) → decides p of ≡ None → nat_lt p (sized size of) ≡ nat_lt p size
 sized_kept size Nothing p none = refl
-sized_kept size (Range from to) p none = reach (undecided (nat_lt p to) none)
+sized_kept size (Range from to) p none = reach (if_none (nat_lt p to) none)
   where
     reach : nat_lt p to ≡ false → nat_lt p (max size to) ≡ nat_lt p size
     reach past = elim (cases_lt p size) [
@@ -79,9 +75,6 @@ sized_twice size Nothing = refl
 sized_twice size (Range from to) = omega arith
 sized_twice size (From from) = refl
 
-apart_end : (from to low high : ℕ) → (nat_lt (max from low) (max to high)) ≡ false → max to high ≤ max from low
-apart_end from to low high h = grind (arith, nat_tests)
-
 not_below : (a b : ℕ) → nat_lt a b ≡ false → b ≤ a
 not_below a b h = grind (arith, nat_tests)
 
@@ -105,7 +98,7 @@ held_decides : (of : Span) (p q : ℕ) → p ≤ q → Holds of q → decides p 
 held_decides Nothing p q up holds none = holds
 held_decides (Range from to) p q up holds none =
     let below : nat_lt p to ≡ true = lt-ltb p to (omega arith) in
-    no_clash (nat_lt p to) below (undecided (nat_lt p to) none)
+    no_clash (nat_lt p to) below (if_none (nat_lt p to) none)
 held_decides (From from) p q up holds none = some_none (nat_lt p from) none
   where
     some_none : (b : Bool) → Some b ≡ None → ⊥
@@ -152,9 +145,6 @@ stood core kept k p live h holds = elim (held_place (at core k).span p holds) [
       let byte : byte_at (payload (slice_get core.log k)) (at core k).span p ≡ 0 = behind.1 (payload (slice_get core.log k)) in
       rw (tag, byte) refl
 ]
-
-now_size : (core : Core) → is_size core core.size ≡ true
-now_size core = let own : (core.size == core.size) ≡ true = same_test core.size core.size refl in rw own refl
 
 -- ---- an entry that was out, and is home
 
@@ -310,10 +300,6 @@ back_stored core place t size sizes kept back = record {
           | inr old ↦ kept.stored_.applied_size j s live was old
         ]
 
-or_cases : (a b : Bool) → (a || b) ≡ true → (a ≡ true) ⊎ (b ≡ true)
-or_cases true b h = inl refl
-or_cases false b h = inr h
-
 any_more : (s : ℕ) (xs : List ℕ) (x : ℕ) → list_any (λ y. s == y) (xs ++ x ∷ []) ≡ true → (s ≡ x) ⊎ (list_any (λ y. s == y) xs ≡ true)
 any_more s [] x h = elim (or_cases (s == x) false h) [ inl same ↦ inl (same_number s x same) | inr none ↦ cc ]
 any_more s (y ∷ ys) x h = elim (or_cases (s == y) (list_any (λ z. s == z) (ys ++ x ∷ [])) h) [
@@ -341,9 +327,6 @@ kept_sizes core of s all is =
       | inl same ↦ let here : s ≡ core.size = same_number s core.size same in rw here (keeps of core.size parts.0)
       | inr rest ↦ keep_at of core.sizes s parts.1 rest
     ]
-
-only_sized : (s n : ℕ) → ((s == n) || false) ≡ true → s ≡ n
-only_sized s n h = elim (or_cases (s == n) false h) [ inl same ↦ same_number s n same | inr none ↦ cc ]
 
 either_size : (core : Core) (n s : ℕ) → ((s == n) || list_any (λ x. s == x) (core.sizes ++ core.size ∷ [])) ≡ true → (s ≡ n) ⊎ (is_size core s ≡ true)
 either_size core n s h = elim (or_cases (s == n) (list_any (λ x. s == x) (core.sizes ++ core.size ∷ [])) h) [
@@ -399,11 +382,11 @@ put_back_stored core place sizes.Set gate applied kept out h =
       span = refl;
       live = refl;
       unread = refl;
-      sizes_are = λ s is. inl (only_sized s (sized core.size (track core.tracks place).span) is ∙ same);
+      sizes_are = λ s is. inl (only_size s (sized core.size (track core.tracks place).span) is ∙ same);
       applied = λ on. elim (back_applied core place sizes.Set gate applied some h on) [
         | inl was ↦ inl was
         | inr set ↦ inr (set.0, λ s is.
-            let here : s ≡ sized core.size (at core (place - 1)).span = only_sized s (sized core.size (track core.tracks place).span) is ∙ same in
+            let here : s ≡ sized core.size (at core (place - 1)).span = only_size s (sized core.size (track core.tracks place).span) is ∙ same in
             rw here (sized_twice core.size (at core (place - 1)).span))
       ];
     })
@@ -551,7 +534,7 @@ retired_stored core place kept out all_stand = record {
     size_is : (s : ℕ) → is_size new s ≡ true → s ≡ sized core.size (at core k).span
     size_is s is =
         let same : sized core.size (track core.tracks place).span ≡ sized core.size (at core k).span = rw was_at refl in
-        only_sized s (sized core.size (track core.tracks place).span) is ∙ same
+        only_size s (sized core.size (track core.tracks place).span) is ∙ same
 
     byte_is : (v p : ℕ) → IsView core v p → IsLast core v p k → get_or (file_at core v) p 0 ≡ byte_of core k p
     byte_is v p view last = file_at-last core kept.logged kept.ordered v p k (in_log view) last
