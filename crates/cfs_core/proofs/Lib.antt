@@ -18,6 +18,7 @@ pub mod Registers
 pub mod Runs
 pub mod Served
 pub mod Sizes
+pub mod Stored
 pub mod StoredAdmit
 pub mod StoredCrash
 pub mod StoredFinish

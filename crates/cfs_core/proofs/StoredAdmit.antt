@@ -36,17 +36,20 @@ at_last [] last (suc k) is = absurd (omega arith)
 at_last (x ∷ xs) last zero is = absurd (omega arith)
 at_last (x ∷ xs) last (suc k) is = at_last xs last k (omega arith)
 
+pushed : (core : Core) (t : Track) (k : ℕ) → k ≡ length core.tracks → get_or (core.tracks ++ t ∷ []) k blank ≡ t
+pushed core t k last =
+    let now : get_or (core.tracks ++ t ∷ []) k blank ≡ get_or (t ∷ []) (k - length core.tracks) blank =
+    get_or-append_right core.tracks (t ∷ []) (length core.tracks) k blank refl (omega arith) in
+    let first : k - length core.tracks ≡ 0 = omega arith in
+    rw (now, first) refl
+
 -- what the new core has at an index
 sees : (core : Core) (entry : Entry) (t : Track) (k : ℕ) →
     ((k < length core.tracks) × (at (logged core entry t) k ≡ at core k)) ⊎ (((k ≡ length core.tracks) × (at (logged core entry t) k ≡ t)) ⊎ (at (logged core entry t) k ≡ blank))
 sees core entry t k = elim (cases_lt k (length core.tracks)) [
   | inl within ↦ inl (within, get_or_append_left core.tracks (t ∷ []) blank k within)
   | inr past ↦ elim (same_or_not k (length core.tracks)) [
-    | inl last ↦
-        let now : get_or (core.tracks ++ t ∷ []) k blank ≡ get_or (t ∷ []) (k - length core.tracks) blank =
-        get_or-append_right core.tracks (t ∷ []) (length core.tracks) k blank refl past in
-        let first : k - length core.tracks ≡ 0 = omega arith in
-        inr (inl (last, rw (now, first) refl))
+    | inl last ↦ inr (inl (last, pushed core t k last))
     | inr beyond ↦ inr (inr (get_or_past (core.tracks ++ t ∷ []) k blank (omega (arith, length-append core.tracks (t ∷ [])))))
   ]
 ]
@@ -86,17 +89,7 @@ logged_stored core entry t kept silent =
     old k within = get_or_append_left core.tracks (t ∷ []) blank k within
 
     own : at (logged core entry t) (length core.log) ≡ t
-    own = elim (sees core entry t (length core.log)) [
-      | inl within ↦ absurd (omega arith)
-      | inr rest ↦ elim rest [ inl last ↦ last.1 | inr none ↦ is_last (length core.log) none ]
-    ]
-      where
-        is_last : (k : ℕ) → at (logged core entry t) (length core.log) ≡ blank → at (logged core entry t) (length core.log) ≡ t
-        is_last k none =
-            let now : get_or (core.tracks ++ t ∷ []) (length core.log) blank ≡ get_or (t ∷ []) (length core.log - length core.tracks) blank =
-            get_or-append_right core.tracks (t ∷ []) (length core.tracks) (length core.log) blank refl (omega arith) in
-            let first : length core.log - length core.tracks ≡ 0 = omega arith in
-            rw (now, first) refl
+    own = pushed core t (length core.log) (sym same)
 
     in_log : (i : ℕ) → IsLive core i → i < length core.tracks
     in_log i live = in_tracks is_live core.tracks i refl live

@@ -27,9 +27,10 @@ use Rattle.cfs_core.proofs.Alive.{out_lives}
 use Rattle.cfs_core.proofs.Apart.{is_busy, out_busy}
 use Rattle.cfs_core.proofs.Kept.{Alters, IsChange, IsFree, IsKept, IsLast, IsLive, IsStored, IsUnserved, IsView, at, byte_of, decides, file_at}
 use Rattle.cfs_core.proofs.Legal.{both}
+use Rattle.cfs_core.proofs.Moments.{or_right}
 use Rattle.cfs_core.proofs.Order.{in_range, same_or_not, some_place, track_is}
-use Rattle.cfs_core.proofs.Registers.{IsFull, alters-or-not, change-full, change-within, clash, file_at-all, file_at-last, find-decider, longer-last}
-use Rattle.cfs_core.proofs.StoredFrames.{IsStill, IsTamer, StayLive, at_put, in_tracks, no_clash, same_number, same_test, still_altered, still_alters, still_byte, still_file, still_file_at, still_free, still_none, still_view, tamer_same, tamer_still}
+use Rattle.cfs_core.proofs.Registers.{IsFull, alters-or-not, change-full, change-within, clash, file_at-all, file_at-last, find-decider, if_none, longer-last}
+use Rattle.cfs_core.proofs.StoredFrames.{IsStill, IsTamer, StayLive, at_put, in_tracks, no_clash, now_size, only_size, or_cases, same_number, still_altered, still_alters, still_byte, still_file, still_file_at, still_free, still_none, still_view, tamer_same, tamer_still}
 use Rattle.cfs_core.proofs.StoredQuiet.{stored_more}
 use Rattle.cfs_core.proofs.StoredTags.{mapped_at}
 use Rattle.cfs_core.proofs.StoredWrites.{applied_busy, meet_at, not_free}
@@ -46,13 +47,9 @@ sized_byte bytes Nothing size p past holds = refl
 sized_byte bytes (Range from to) size p past holds = absurd (omega arith)
 sized_byte bytes (From from) size p past holds = refl
 
-undecided : (b : Bool) → (if b then Some true else None) ≡ None → b ≡ false
-undecided true is = cc
-undecided false is = refl
-
 sized_kept : (size : ℕ) (of : Span) (p : ℕ) → decides p of ≡ None → nat_lt p (sized size of) ≡ nat_lt p size
 sized_kept size Nothing p none = refl
-sized_kept size (Range from to) p none = reach (undecided (nat_lt p to) none)
+sized_kept size (Range from to) p none = reach (if_none (nat_lt p to) none)
   where
     reach : nat_lt p to ≡ false → nat_lt p (max size to) ≡ nat_lt p size
     reach past = elim (cases_lt p size) [
@@ -78,9 +75,6 @@ sized_twice size Nothing = refl
 sized_twice size (Range from to) = omega arith
 sized_twice size (From from) = refl
 
-apart_end : (from to low high : ℕ) → (nat_lt (max from low) (max to high)) ≡ false → max to high ≤ max from low
-apart_end from to low high h = grind (arith, nat_tests)
-
 not_below : (a b : ℕ) → nat_lt a b ≡ false → b ≤ a
 not_below a b h = grind (arith, nat_tests)
 
@@ -104,7 +98,7 @@ held_decides : (of : Span) (p q : ℕ) → p ≤ q → Holds of q → decides p 
 held_decides Nothing p q up holds none = holds
 held_decides (Range from to) p q up holds none =
     let below : nat_lt p to ≡ true = lt-ltb p to (omega arith) in
-    no_clash (nat_lt p to) below (undecided (nat_lt p to) none)
+    no_clash (nat_lt p to) below (if_none (nat_lt p to) none)
 held_decides (From from) p q up holds none = some_none (nat_lt p from) none
   where
     some_none : (b : Bool) → Some b ≡ None → ⊥
@@ -151,9 +145,6 @@ stood core kept k p live h holds = elim (held_place (at core k).span p holds) [
       let byte : byte_at (payload (slice_get core.log k)) (at core k).span p ≡ 0 = behind.1 (payload (slice_get core.log k)) in
       rw (tag, byte) refl
 ]
-
-now_size : (core : Core) → is_size core core.size ≡ true
-now_size core = let own : (core.size == core.size) ≡ true = same_test core.size core.size refl in rw own refl
 
 -- ---- an entry that was out, and is home
 
@@ -308,3 +299,283 @@ back_stored core place t size sizes kept back = record {
           | inl set ↦ rw set (fit_sized core k is_out_ j other live was)
           | inr old ↦ kept.stored_.applied_size j s live was old
         ]
+
+any_more : (s : ℕ) (xs : List ℕ) (x : ℕ) → list_any (λ y. s == y) (xs ++ x ∷ []) ≡ true → (s ≡ x) ⊎ (list_any (λ y. s == y) xs ≡ true)
+any_more s [] x h = elim (or_cases (s == x) false h) [ inl same ↦ inl (same_number s x same) | inr none ↦ cc ]
+any_more s (y ∷ ys) x h = elim (or_cases (s == y) (list_any (λ z. s == z) (ys ++ x ∷ [])) h) [
+  | inl same ↦ inr (rw same refl)
+  | inr rest ↦ elim (any_more s ys x rest) [ inl last ↦ inl last | inr within ↦ inr (or_right (s == y) (list_any (λ z. s == z) ys) within) ]
+]
+
+keeps : (of : Span) (s : ℕ) → keeps_size of s ≡ true → sized s of ≡ s
+keeps of s h = sym (same_number s (sized s of) h)
+
+keep_at : (of : Span) (sizes : List ℕ) (s : ℕ) → keep_all of sizes ≡ true → list_any (λ x. s == x) sizes ≡ true → sized s of ≡ s
+keep_at of [] s all any = cc
+keep_at of (x ∷ xs) s all any =
+    let parts = both (keeps_size of x) (keep_all of xs) all in
+    elim (or_cases (s == x) (list_any (λ y. s == y) xs) any) [
+      | inl same ↦ let is : s ≡ x = same_number s x same in rw is (keeps of x parts.0)
+      | inr rest ↦ keep_at of xs s parts.1 rest
+    ]
+
+-- each size that the word may have is one that the entry leaves as it is
+kept_sizes : (core : Core) (of : Span) (s : ℕ) → (keeps_size of core.size && keep_all of core.sizes) ≡ true → is_size core s ≡ true → sized s of ≡ s
+kept_sizes core of s all is =
+    let parts = both (keeps_size of core.size) (keep_all of core.sizes) all in
+    elim (or_cases (s == core.size) (list_any (λ x. s == x) core.sizes) is) [
+      | inl same ↦ let here : s ≡ core.size = same_number s core.size same in rw here (keeps of core.size parts.0)
+      | inr rest ↦ keep_at of core.sizes s parts.1 rest
+    ]
+
+either_size : (core : Core) (n s : ℕ) → ((s == n) || list_any (λ x. s == x) (core.sizes ++ core.size ∷ [])) ≡ true → (s ≡ n) ⊎ (is_size core s ≡ true)
+either_size core n s h = elim (or_cases (s == n) (list_any (λ x. s == x) (core.sizes ++ core.size ∷ [])) h) [
+  | inl same ↦ inl (same_number s n same)
+  | inr rest ↦ elim (any_more s core.sizes core.size rest) [
+    | inl last ↦ inr (rw last (now_size core))
+    | inr within ↦ inr (or_right (s == core.size) (list_any (λ x. s == x) core.sizes) within)
+  ]
+]
+
+stands_here : (core : Core) (place : ℕ) → (place ≡ 0 → ⊥) → stands_at core place ≡ true → stands core (payload (slice_get core.log (place - 1))) (at core (place - 1)).span ≡ true
+stands_here core place some h =
+    let test : (place == 0) ≡ false = grind (arith, nat_tests) in
+    let was_at : track core.tracks place ≡ at core (place - 1) = track_is core.tracks place (place - 1) some refl in
+    rw (was_at, test) at h
+
+back_applied : (core : Core) (place : ℕ) (size : SizeEnd) (gate : Flag) (applied : Bool) → (place ≡ 0 → ⊥) → ends_well core place (ends.Back size gate applied) ≡ true → applied ≡ true →
+    ((at core (place - 1)).applied ≡ true)
+    ⊎ ((stands core (payload (slice_get core.log (place - 1))) (at core (place - 1)).span ≡ true) × (is_size_set core (at core (place - 1)).span size ≡ true))
+back_applied core place size gate false some h on = cc
+back_applied core place size gate true some h on =
+    let was_at : track core.tracks place ≡ at core (place - 1) = track_is core.tracks place (place - 1) some refl in
+    elim (or_cases (track core.tracks place).applied (is_size_set core (track core.tracks place).span size && stands_at core place) h) [
+      | inl was ↦ inl (rw was_at at was)
+      | inr set ↦
+          let parts = both (is_size_set core (track core.tracks place).span size) (stands_at core place) set in
+          inr (stands_here core place some parts.1, rw was_at at parts.0)
+    ]
+
+put_back_stored : (core : Core) (place : ℕ) (size : SizeEnd) (gate : Flag) (applied : Bool) → IsKept core → is_out (track core.tracks place).state ≡ true →
+    ends_well core place (ends.Back size gate applied) ≡ true → IsStored (finished core place (track core.tracks place) (ends.Back size gate applied))
+put_back_stored core place sizes.AsBefore gate applied kept out h =
+    let some = some_place is_out refl core.tracks place out in
+    back_stored core place (put_back (track core.tracks place) gate applied) core.size core.sizes kept (record {
+      some = some;
+      out = out;
+      span = refl;
+      live = refl;
+      unread = refl;
+      sizes_are = λ s is. inr is;
+      applied = λ on. elim (back_applied core place sizes.AsBefore gate applied some h on) [
+        | inl was ↦ inl was
+        | inr set ↦ inr (set.0, λ s is. kept_sizes core (at core (place - 1)).span s set.1 is)
+      ];
+    })
+put_back_stored core place sizes.Set gate applied kept out h =
+    let some = some_place is_out refl core.tracks place out in
+    let was_at : track core.tracks place ≡ at core (place - 1) = track_is core.tracks place (place - 1) some refl in
+    let same : sized core.size (track core.tracks place).span ≡ sized core.size (at core (place - 1)).span = rw was_at refl in
+    back_stored core place (put_back (track core.tracks place) gate applied) (sized core.size (track core.tracks place).span) [] kept (record {
+      some = some;
+      out = out;
+      span = refl;
+      live = refl;
+      unread = refl;
+      sizes_are = λ s is. inl (only_size s (sized core.size (track core.tracks place).span) is ∙ same);
+      applied = λ on. elim (back_applied core place sizes.Set gate applied some h on) [
+        | inl was ↦ inl was
+        | inr set ↦ inr (set.0, λ s is.
+            let here : s ≡ sized core.size (at core (place - 1)).span = only_size s (sized core.size (track core.tracks place).span) is ∙ same in
+            rw here (sized_twice core.size (at core (place - 1)).span))
+      ];
+    })
+put_back_stored core place sizes.Either gate applied kept out h =
+    let some = some_place is_out refl core.tracks place out in
+    let was_at : track core.tracks place ≡ at core (place - 1) = track_is core.tracks place (place - 1) some refl in
+    let same : sized core.size (track core.tracks place).span ≡ sized core.size (at core (place - 1)).span = rw was_at refl in
+    back_stored core place (put_back (track core.tracks place) gate applied) (sized core.size (track core.tracks place).span) (core.sizes ++ core.size ∷ []) kept (record {
+      some = some;
+      out = out;
+      span = refl;
+      live = refl;
+      unread = refl;
+      sizes_are = λ s is. elim (either_size core (sized core.size (track core.tracks place).span) s is) [ inl here ↦ inl (here ∙ same) | inr was ↦ inr was ];
+      applied = λ on. elim (back_applied core place sizes.Either gate applied some h on) [
+        | inl was ↦ inl was
+        | inr set ↦ inr (set.0, λ s is. elim (either_size core (sized core.size (track core.tracks place).span) s is) [
+          | inl here ↦ let now : s ≡ sized core.size (at core (place - 1)).span = here ∙ same in rw now (sized_twice core.size (at core (place - 1)).span)
+          | inr was ↦ kept_sizes core (at core (place - 1)).span s set.1 was
+        ])
+      ];
+    })
+
+-- ---- retired
+
+-- a live entry decides no position otherwise than a later one without a live entry behind both
+same_way : (core : Core) (k : ℕ) → IsOut core k → (p m : ℕ) (b c : Bool) → k < m → m < length core.log → IsChange core m → decides p (at core k).span ≡ Some b → decides p (at core m).span ≡ Some c →
+    ((i : ℕ) → (i ≡ k → ⊥) → IsLive core i → decides p (at core i).span ≡ None) → c ≡ b
+same_way core k is p m b c after_k within change way own none = pick b c way own
+  where
+    shared : (q : ℕ) → p ≤ q → Holds (at core k).span q → Holds (at core m).span q → ⊥
+    shared q up first second =
+        let last = is.kept.logged.order (length core.log) k q (inl refl) (omega arith) is.live (is.change, first) in
+        elim (cases_lt last.0 m) [
+          | inl before ↦ last.1.1.2 m before within (change, second)
+          | inr behind ↦ held_decides (at core last.0).span p q up last.1.1.1.1 (none last.0 (λ same. omega arith) last.1.0)
+        ]
+
+    pick : (x y : Bool) → decides p (at core k).span ≡ Some x → decides p (at core m).span ≡ Some y → y ≡ x
+    pick true true first second = refl
+    pick false false first second = refl
+    pick true false first second =
+        let q = clash (at core k).span (at core m).span p first second is.full in
+        absurd (shared q.0 q.1.0 q.1.1.0 q.1.1.1)
+    pick false true first second =
+        let q = clash (at core m).span (at core k).span p second first (change-full core is.kept.logged m change) in
+        absurd (shared q.0 q.1.0 q.1.1.1 q.1.1.0)
+
+-- the length of the file is as the entry that was out decides it
+long_decided : (core : Core) (k : ℕ) → IsOut core k → (p : ℕ) (b : Bool) → decides p (at core k).span ≡ Some b →
+    ((i : ℕ) → (i ≡ k → ⊥) → IsLive core i → decides p (at core i).span ≡ None) → nat_lt p (length (file core)) ≡ b
+long_decided core k is p b way none = elim (find-decider core (length core.log) p) [
+  | inl found ↦
+      let m = found.0 in
+      let decider = found.1.1 in
+      let long : nat_lt p (length (file_at core (length core.log))) ≡ found.1.0 =
+      longer-last core is.kept.logged is.kept.ordered (length core.log) p m found.1.0 (omega arith) decider in
+      let whole : nat_lt p (length (file core)) ≡ found.1.0 = rw (file_at-all core) at long in
+      elim (cases_lt k m) [
+        | inl after_k ↦ whole ∙ same_way core k is p m b found.1.0 after_k decider.0 decider.1 way decider.2 none
+        | inr up ↦ elim (cases_lt m k) [
+          | inl before ↦ absurd (some_none b (decides p (at core k).span) way (decider.3 k before within is.change))
+          | inr down ↦
+              let same : m ≡ k = omega arith in
+              let own : decides p (at core k).span ≡ Some found.1.0 = rw same at decider.2 in
+              let equal : found.1.0 ≡ b = one_some found.1.0 b (decides p (at core k).span) own way in
+              whole ∙ equal
+        ]
+      ]
+  | inr never ↦ absurd (some_none b (decides p (at core k).span) way (never k within is.change))
+]
+  where
+    within : k < length core.log
+    within = change-within core k is.change
+
+    some_none : (x : Bool) (o : Option Bool) → o ≡ Some x → o ≡ None → ⊥
+    some_none x o some_x none_o = cc
+
+    one_some : (x y : Bool) (o : Option Bool) → o ≡ Some x → o ≡ Some y → x ≡ y
+    one_some x y o first second = cc
+
+retired_stored : (core : Core) (place : ℕ) → IsKept core → is_out (track core.tracks place).state ≡ true → stands_at core place ≡ true →
+    IsStored (home core place (retired (track core.tracks place)) (sized core.size (track core.tracks place).span) [])
+retired_stored core place kept out all_stand = record {
+  short = kept.stored_.short;
+  rests_free = λ v p view free.
+      let old_view = still_view core new still v p view in
+      elim (freed v p old_view free) [
+        | inl old_free ↦ kept.stored_.rests_free v p old_view old_free
+        | inr last ↦ rw (byte_is v p old_view last) (stood core kept k p is_out_.live stands_k last.1.1)
+      ];
+  zero_past = λ v s p view is past free.
+      let old_view = still_view core new still v p view in
+      let size = size_is s is in
+      elim (freed v p old_view free) [
+        | inl old_free ↦ past_sized core k is_out_ v p old_view (omega arith) old_free
+        | inr last ↦ byte_is v p old_view last ∙ sized_byte (payload (slice_get core.log k)) (at core k).span core.size p (omega arith) last.1.1
+      ];
+  long = λ s p is none. rw (size_is s is) (long p (none_other p none) (decides p (at core k).span) refl);
+  applied_rests = λ j p live applied alters.
+      let other = not_k j live in
+      let was : (at core j).applied ≡ true = rw (others j other) at applied in
+      rw (still_byte core new still j p) (kept.stored_.applied_rests j p (still.lives j live) was (still_alters core new still j p alters));
+  applied_size = λ j s live applied is.
+      let other = not_k j live in
+      let was : (at core j).applied ≡ true = rw (others j other) at applied in
+      rw (still.spans j, size_is s is) (fit_sized core k is_out_ j other (still.lives j live) was);
+}
+  where
+    new : Core
+    new = home core place (retired (track core.tracks place)) (sized core.size (track core.tracks place).span) []
+
+    k : ℕ
+    k = place - 1
+
+    some : place ≡ 0 → ⊥
+    some = some_place is_out refl core.tracks place out
+
+    was_at : track core.tracks place ≡ at core k
+    was_at = track_is core.tracks place (place - 1) some refl
+
+    is_out_ : IsOut core k
+    is_out_ = is-out core k kept (rw was_at at out)
+
+    stands_k : stands core (payload (slice_get core.log k)) (at core k).span ≡ true
+    stands_k = stands_here core place some all_stand
+
+    still : IsStill core new
+    still =
+        tamer_still core new refl refl
+        (at_put IsTamer core.tracks place (retired (track core.tracks place)) some tamer_same (record { span = refl; unserved = λ h. cc; lives = λ h. cc }))
+
+    others : (j : ℕ) → (j ≡ k → ⊥) → at new j ≡ at core j
+    others j other = get_or-set_other core.tracks (place - 1) j (retired (track core.tracks place)) blank other
+
+    own : at new k ≡ retired (track core.tracks place)
+    own = get_or-set_at core.tracks (place - 1) k (retired (track core.tracks place)) blank refl (in_tracks is_live core.tracks k refl is_out_.live)
+
+    not_k : (j : ℕ) → IsLive new j → j ≡ k → ⊥
+    not_k j live same = let alive : is_live (retired (track core.tracks place)).state ≡ true = rw (same, own) at live in cc
+
+    stays : (j : ℕ) → (j ≡ k → ⊥) → IsLive core j → IsLive new j
+    stays j other live = rw (others j other) live
+
+    size_is : (s : ℕ) → is_size new s ≡ true → s ≡ sized core.size (at core k).span
+    size_is s is =
+        let same : sized core.size (track core.tracks place).span ≡ sized core.size (at core k).span = rw was_at refl in
+        only_size s (sized core.size (track core.tracks place).span) is ∙ same
+
+    byte_is : (v p : ℕ) → IsView core v p → IsLast core v p k → get_or (file_at core v) p 0 ≡ byte_of core k p
+    byte_is v p view last = file_at-last core kept.logged kept.ordered v p k (in_log view) last
+      where
+        in_log : IsView core v p → v ≤ length core.log
+        in_log (inl end) = omega arith
+        in_log (inr read) = let within = in_tracks is_unserved core.tracks v refl read.0 in let same = kept.ordered.same in omega arith
+
+    -- a position that becomes free was free, or the entry was the last that had it
+    freed : (v p : ℕ) → IsView core v p → IsFree new v p → IsFree core v p ⊎ IsLast core v p k
+    freed v p view free = elim (cases_lt k v) [
+      | inl before ↦ elim (alters-or-not core p k) [
+        | inl alters ↦ last_of before (kept.logged.order v k p view before is_out_.live alters)
+        | inr out_of ↦ inl (λ i less live alters. elim (same_or_not i k) [
+          | inl same ↦ out_of (rw same at alters)
+          | inr other ↦ free i less (stays i other live) (still_altered core new still i p alters)
+        ])
+      ]
+      | inr up ↦ inl (λ i less live alters. free i less (stays i (λ same. omega arith) live) (still_altered core new still i p alters))
+    ]
+      where
+        last_of : k < v → (m : ℕ) × (IsLive core m × IsLast core v p m) → IsFree core v p ⊎ IsLast core v p k
+        last_of before found = elim (same_or_not found.0 k) [
+          | inl same ↦ inr (rw same at found.1.1)
+          | inr other ↦ absurd (free found.0 found.1.1.0 (stays found.0 other found.1.0) (still_altered core new still found.0 p found.1.1.1))
+        ]
+
+    none_other : (p : ℕ) → ((i : ℕ) → IsLive new i → decides p (at new i).span ≡ None) → (i : ℕ) → (i ≡ k → ⊥) → IsLive core i → decides p (at core i).span ≡ None
+    none_other p none i other live = rw (still.spans i) at (none i (stays i other live))
+
+    long : (p : ℕ) → ((i : ℕ) → (i ≡ k → ⊥) → IsLive core i → decides p (at core i).span ≡ None) → (o : Option Bool) → decides p (at core k).span ≡ o →
+        nat_lt p (sized core.size (at core k).span) ≡ nat_lt p (length (file core))
+    long p none None way = long_sized core k is_out_ p (λ i live. elim (same_or_not i k) [ inl same ↦ rw same way | inr other ↦ none i other live ])
+    long p none (Some b) way = sized_set core.size (at core k).span p b way ∙ sym (long_decided core k is_out_ p b way none)
+
+pub stored_finish : (core : Core) (place : ℕ) (end : End) → IsKept core → may_finish core place end ≡ true → IsStored (finished core place (track core.tracks place) end)
+stored_finish core place ends.Retired kept h =
+    let parts = both (is_out (track core.tracks place).state) (ends_well core place ends.Retired) h in
+    retired_stored core place kept parts.0 (both (is_through (track core.tracks place).state) (stands_at core place) parts.1).1
+stored_finish core place ends.More kept h =
+    stored_more core place kept.stored_ (both (is_out (track core.tracks place).state) (ends_well core place ends.More) h).0
+stored_finish core place (ends.Back size gate applied) kept h =
+    let parts = both (is_out (track core.tracks place).state) (ends_well core place (ends.Back size gate applied)) h in
+    put_back_stored core place size gate applied kept parts.0 parts.1

@@ -27,6 +27,17 @@ same_test a b h = grind (arith, nat_tests)
 pub no_clash : (b : Bool) → b ≡ true → b ≡ false → ⊥
 no_clash b on off = cc
 
+pub or_cases : (a b : Bool) → (a || b) ≡ true → (a ≡ true) ⊎ (b ≡ true)
+or_cases true b h = inl refl
+or_cases false b h = inr h
+
+pub now_size : (core : Core) → is_size core core.size ≡ true
+now_size core = let own : (core.size == core.size) ≡ true = same_test core.size core.size refl in rw own refl
+
+-- the only size there is
+pub only_size : (s n : ℕ) → ((s == n) || false) ≡ true → s ≡ n
+only_size s n h = elim (or_cases (s == n) false h) [ inl same ↦ same_number s n same | inr none ↦ cc ]
+
 pub in_tracks : (test : State → Bool) (tracks : List Track) (k : ℕ) → test Closed ≡ false → test (get_or tracks k blank).state ≡ true → k < length tracks
 in_tracks test tracks k closed h = elim (cases_lt k (length tracks)) [
   | inl within ↦ within

@@ -19,7 +19,7 @@ use Rattle.cfs_core.proofs.Apart.{any_none, live_only, not_true}
 use Rattle.cfs_core.proofs.Kept.{Alters, IsFree, IsKept, IsLive, IsStored, IsUnserved, IsView, at, decides, file_at}
 use Rattle.cfs_core.proofs.Legal.{both}
 use Rattle.cfs_core.proofs.Order.{same_or_not, some_place, track_is}
-use Rattle.cfs_core.proofs.Registers.{IsFull, change-full}
+use Rattle.cfs_core.proofs.Registers.{IsFull, change-full, if_none}
 use Rattle.cfs_core.proofs.StoredFrames.{Follows, IsStill, IsTamer, at_put, in_tracks, no_clash, still_altered, still_view, stored-follows, tamer_same, tamer_still}
 use Rattle.cfs_core.proofs.StoredWrites.{meet_at}
 
@@ -43,14 +43,10 @@ narrower Nothing (Range f t) p h full none = let over : t ≤ f = grind (arith, 
 narrower Nothing (From f) p h full none = cc
 narrower (Range s e) Nothing p h full none = refl
 narrower (Range s e) (Range f t) p h full none =
-    let past : nat_lt p e ≡ false = undecided (nat_lt p e) none in
+    let past : nat_lt p e ≡ false = if_none (nat_lt p e) none in
     let test : nat_lt p t ≡ false = beyond h full past in
     rw test refl
   where
-    undecided : (b : Bool) → (if b then Some true else None) ≡ None → b ≡ false
-    undecided true is = cc
-    undecided false is = refl
-
     beyond : (nat_le t f || (nat_le s f && nat_le t e)) ≡ true → f < t → nat_lt p e ≡ false → nat_lt p t ≡ false
     beyond over some past = grind (arith, nat_tests)
 narrower (Range s e) (From f) p h full none = cc
