@@ -20,11 +20,12 @@ use Rattle.cfs_core.proofs.Apart.{apart-after}
 use Rattle.cfs_core.proofs.Freshly.{kept-fresh}
 use Rattle.cfs_core.proofs.Goods.{good-kept}
 use Rattle.cfs_core.proofs.Images.{image_now-is}
-use Rattle.cfs_core.proofs.Kept.{IsDoubtful, IsKept, IsStored}
+use Rattle.cfs_core.proofs.Kept.{IsDoubtful, IsKept}
 use Rattle.cfs_core.proofs.Legal.{both, legal-after}
 use Rattle.cfs_core.proofs.Logged.{blocks-after, logged-after}
 use Rattle.cfs_core.proofs.Order.{ordered-after}
 use Rattle.cfs_core.proofs.Recovers.{recovers}
+use Rattle.cfs_core.proofs.Stored.{stored-after}
 
 -- ---- the file that a mount finds is a file
 
@@ -61,9 +62,6 @@ legal-kept core (events.Trim block kept) k h = legal-after core (events.Trim blo
 legal-kept core events.Settle k h = legal-after core events.Settle k.legal h refl
 legal-kept core (events.Crash image) k h = legal-after core (events.Crash image) k.legal h refl
 legal-kept core events.Mount k h = IsLegal-none (recovered core (image_now core)) (mount-fits core k)
-
-stored-after : (core : Core) (event : Event) → IsKept core → case core event ≡ true → IsStored (after core event)
-stored-after core event kept h = ?
 
 pub kept-after : (core : Core) (event : Event) → IsKept core → case core event ≡ true → IsKept (after core event)
 kept-after core event kept h = record {
