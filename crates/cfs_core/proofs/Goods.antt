@@ -1,6 +1,5 @@
 -- The invariant gives all that is promised after each event.
-use Rattle.std.proofs.Common.{◌≡◌, inl, ℕ, ◌+◌, ◌≤◌, true, false, length, get_or, nat_lt, arith, refl, sym, ap, ◌∙◌}
-use Rattle.std.proofs.lemmas.Bool.{cases_lt}
+use Rattle.std.proofs.Common.{◌≡◌, inl, ℕ, ◌+◌, ◌≤◌, true, false, length, get_or, nat_lt, refl, sym, ap, ◌∙◌}
 use Rattle.cfs_file.specs.Span.{Holds}
 use Rattle.cfs_core.specs.declared.image.Image.{Image}
 use Rattle.cfs_core.specs.declared.inode_core.Core.{Core}
@@ -8,7 +7,7 @@ use Rattle.cfs_core.specs.Words.{is_live, track}
 use Rattle.cfs_core.specs.Medium.{file, is_image, stored, stored_byte}
 use Rattle.cfs_core.specs.Good.{IsGood}
 use Rattle.cfs_core.proofs.Images.{at-next, length-stored, rests-stored, size-allowed}
-use Rattle.cfs_core.proofs.Kept.{IsFree, IsKept, IsLive, at, decides, file_at}
+use Rattle.cfs_core.proofs.Kept.{IsFree, IsKept, IsLive, at, file_at}
 use Rattle.cfs_core.proofs.Order.{gates-rise}
 use Rattle.cfs_core.proofs.Recovers.{recovers, stored-free}
 use Rattle.cfs_core.proofs.Registers.{file_at-all, same-bits}
@@ -25,8 +24,8 @@ drained core kept image h none =
     same-bits (stored image) (file_at core (length core.log))
     (λ p. stored-free core kept image h p (λ i less live alters. none-live core none i live))
     (λ p. ap (λ (n : ℕ). nat_lt p n) (length-stored image)
-      ∙ (kept.stored_.long image.size p (size-allowed core image h) (λ i live. absurd (none-live core none i live))
-      ∙ ap (λ f. nat_lt p (length f)) (sym (file_at-all core))))
+    ∙ (kept.stored_.long image.size p (size-allowed core image h) (λ i live. absurd (none-live core none i live))
+    ∙ ap (λ f. nat_lt p (length f)) (sym (file_at-all core))))
     ∙ file_at-all core
 
 zero_past : (core : Core) → IsKept core → (image : Image) (p : ℕ) → is_image core image ≡ true → image.size ≤ p →
