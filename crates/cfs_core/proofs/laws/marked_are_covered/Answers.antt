@@ -1,4 +1,4 @@
-use Rattle.std.proofs.Common.{◌≡◌, true, List, [], ◌∷◌}
+use Rattle.std.proofs.Common.{List, [], ◌∷◌}
 use Rattle.cfs_core.specs.declared.event.Event.{Event}
 use Rattle.cfs_core.specs.declared.inode_core.Core.{Core}
 use Rattle.cfs_core.specs.May.{case, is_in_phase}
@@ -8,7 +8,8 @@ use Rattle.cfs_core.proofs.Apart.{AreApart, apart-after, apart-empty}
 use Rattle.cfs_core.proofs.Covered.{marks-covered}
 use Rattle.cfs_core.proofs.Kept.{IsLogged}
 use Rattle.cfs_core.proofs.Legal.{both}
-use Rattle.cfs_core.proofs.Logged.{logged-fresh, logged-step}
+use Rattle.cfs_core.proofs.Logged.{logged-step}
+use Rattle.cfs_core.proofs.LoggedCrash.{logged-fresh}
 use Rattle.cfs_core.proofs.Order.{IsOrdered, ordered-after, ordered-empty}
 use Rattle.cfs_core.proofs.laws.marked_are_covered.Goals as goal
 
