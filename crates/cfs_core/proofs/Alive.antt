@@ -251,12 +251,6 @@ sound-after core events.Settle o h = o
 sound-after core (events.Crash image) o h = sound_crash core image o h
 sound-after core events.Mount o h = λ k. refl
 
-pub sound-run : (core : Core) (list : List Event) → AreSound core → IsRun core list → AreSound (after_all core list)
-sound-run core [] o run = o
-sound-run core (event ∷ list) o run =
-    let allowed = both (is_in_phase core.crashed event) (case core event) run.0 in
-    sound-run (after core event) list (sound-after core event o allowed.1) run.1
-
 pub sound-empty : (core : Core) → IsFresh core → AreSound core
 sound-empty core empty k = rw empty.tracks refl
 

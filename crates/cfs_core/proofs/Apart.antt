@@ -261,12 +261,6 @@ apart-after core events.Settle o h = o
 apart-after core (events.Crash image) o h = apart_crash core image o
 apart-after core events.Mount o h = λ i j less live busy. cc
 
-pub apart-run : (core : Core) (list : List Event) → AreApart core → IsRun core list → AreApart (after_all core list)
-apart-run core [] o run = o
-apart-run core (event ∷ list) o run =
-    let allowed = both (is_in_phase core.crashed event) (case core event) run.0 in
-    apart-run (after core event) list (apart-after core event o allowed.1) run.1
-
 pub apart-empty : (core : Core) → IsFresh core → AreApart core
 apart-empty core empty i j less live busy = let none : is_live (get_or [] i blank).state ≡ true = rw empty.tracks at live in cc
 

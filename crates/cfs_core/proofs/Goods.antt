@@ -25,8 +25,8 @@ drained core kept image h none =
     same-bits (stored image) (file_at core (length core.log))
     (λ p. stored-free core kept image h p (λ i less live alters. none-live core none i live))
     (λ p. ap (λ (n : ℕ). nat_lt p n) (length-stored image)
-      ∙ (kept.stored_.long image.size p (size-allowed core image h) (λ i live. absurd (none-live core none i live))
-      ∙ ap (λ f. nat_lt p (length f)) (sym (file_at-all core))))
+    ∙ (kept.stored_.long image.size p (size-allowed core image h) (λ i live. absurd (none-live core none i live))
+    ∙ ap (λ f. nat_lt p (length f)) (sym (file_at-all core))))
     ∙ file_at-all core
 
 zero_past : (core : Core) → IsKept core → (image : Image) (p : ℕ) → is_image core image ≡ true → image.size ≤ p →

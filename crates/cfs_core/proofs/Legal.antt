@@ -17,7 +17,7 @@ use Rattle.cfs_core.specs.declared.event.SizeEnd.TheVariants as sizes
 use Rattle.cfs_core.specs.declared.inode_core.Core.{Core}
 use Rattle.cfs_core.specs.May.{case, is_in_phase, is_query, may_admit}
 use Rattle.cfs_core.specs.After.{after}
-use Rattle.cfs_core.specs.Run.{IsRun, after_all, is_mount}
+use Rattle.cfs_core.specs.Run.{IsRun}
 
 -- both tests hold
 pub both : (a b : Bool) → (a && b) ≡ true → (a ≡ true) × (b ≡ true)
@@ -78,6 +78,22 @@ admit core entry grant true legal may_be =
     let fits = both _ _ change.1 in
     IsLegal-next core.base core.log entry legal (place_is _ _ next.0) (at_most _ _ fits.0)
 
+abbrev pub is_mount : Event → Bool
+is_mount (events.Tag block kept) = false
+is_mount (events.Admit entry grant kept) = false
+is_mount (events.AdmitRead entry) = false
+is_mount (events.Serve place answer) = false
+is_mount (events.Mark place by kept) = false
+is_mount (events.Dispatch place) = false
+is_mount (events.BlockWrite place block left) = false
+is_mount (events.Flush place block ok) = false
+is_mount (events.Finish place end) = false
+is_mount (events.Skip place) = false
+is_mount (events.Trim block kept) = false
+is_mount events.Settle = false
+is_mount (events.Crash image) = false
+is_mount events.Mount = true
+
 pub legal-after : (core : Core) (event : Event) → IsOrderly core → case core event ≡ true → is_mount event ≡ false → IsOrderly (after core event)
 legal-after core (events.Tag block kept) legal may_be calm = legal
 legal-after core (events.Admit entry grant kept) legal may_be calm = admit core entry grant kept legal may_be
@@ -102,10 +118,3 @@ legal-after core (events.Trim block kept) legal may_be calm = legal
 legal-after core events.Settle legal may_be calm = legal
 legal-after core (events.Crash image) legal may_be calm = legal
 legal-after core events.Mount legal may_be calm = cc
-
-pub legal-run : (core : Core) (list : List Event) → IsOrderly core → IsRun core list → list_any is_mount list ≡ false → IsOrderly (after_all core list)
-legal-run core [] legal run calm = legal
-legal-run core (event ∷ list) legal run calm =
-    let first = neither _ _ calm in
-    let allowed = both (is_in_phase core.crashed event) (case core event) run.0 in
-    legal-run (after core event) list (legal-after core event legal allowed.1 first.0) run.1 first.1

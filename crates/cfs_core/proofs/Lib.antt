@@ -5,6 +5,7 @@ pub mod Freshly
 pub mod Goods
 pub mod Images
 pub mod Kept
+pub mod KeptRuns
 pub mod Legal
 pub mod Logged
 pub mod LoggedCrash
@@ -20,7 +21,10 @@ pub mod Registers
 pub mod Runs
 pub mod Served
 pub mod Sizes
+pub mod Stored
+pub mod StoredAdmit
 pub mod StoredCrash
+pub mod StoredFinish
 pub mod StoredFrames
 pub mod StoredQuiet
 pub mod StoredMark

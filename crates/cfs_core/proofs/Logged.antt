@@ -15,8 +15,7 @@ use Rattle.cfs_core.specs.Medium.{allow_bits, image_now, is_image, recovered}
 use Rattle.cfs_core.specs.May.{case}
 use Rattle.cfs_core.specs.After.{after}
 use Rattle.cfs_core.proofs.Legal.{both}
-use Rattle.cfs_core.proofs.Order.{IsOrdered, first_of_and, serves, some_place, writes}
-use Rattle.cfs_core.proofs.Apart.{AreApart}
+use Rattle.cfs_core.proofs.Order.{first_of_and, serves, some_place, writes}
 use Rattle.cfs_core.proofs.Kept.{IsKept, IsLogged}
 use Rattle.cfs_core.proofs.Images.{tags_of_image}
 use Rattle.cfs_core.proofs.LoggedFrames.{logged_beside}
@@ -28,31 +27,28 @@ use Rattle.cfs_core.proofs.LoggedJobs.{logged_closed, logged_dispatch, logged_fi
 use Rattle.cfs_core.proofs.LoggedMarks.{logged_marked}
 use Rattle.cfs_core.proofs.LoggedCrash.{logged_crash, logged_mount}
 
-pub logged-step : (core : Core) (event : Event) → IsOrdered core → AreApart core → IsLogged core → case core event ≡ true → IsLogged (after core event)
-logged-step core (events.Tag block kept) ordered apart old h = logged_tag core block (if kept then On else Unsure) old h
-logged-step core (events.Admit entry grant kept) ordered apart old h = logged_admit core entry grant kept ordered old h
-logged-step core (events.AdmitRead entry) ordered apart old h = logged_query core entry ordered old h
-logged-step core (events.Serve place answer) ordered apart old h =
-    let asks = serves core place answer h in
-    logged_closed core place (track core.tracks place).gate old (some_place is_unserved refl core.tracks place asks)
-    (unserved_dead (track core.tracks place).state asks)
-logged-step core (events.Mark place by kept) ordered apart old h = logged_marked core place by kept ordered old h
-logged-step core (events.Dispatch place) ordered apart old h = logged_dispatch core place old h
-logged-step core (events.BlockWrite place block left) ordered apart old h = logged_written core place block left old (writes core place block left h)
-logged-step core (events.Flush place block ok) ordered apart old h =
-    logged_flushed core place block ok old (both (nat_lt block BLOCKS) (has_block (track core.tracks place).state block) h).1
-logged-step core (events.Finish place end) ordered apart old h =
-    logged_finished core place end apart old (first_of_and (is_out (track core.tracks place).state) _ h)
-logged-step core (events.Skip place) ordered apart old h =
-    logged_closed core place Off old (some_place is_noop refl core.tracks place h) (noop_dead (track core.tracks place).state h)
-logged-step core (events.Trim block kept) ordered apart old h = logged_trim core block (if kept then Off else Unsure) old h
-logged-step core events.Settle ordered apart old h =
-    logged_beside core None core.size core.sizes core.tags core.bytes core.loose core.crashed old old.mapped (λ d is. absurd (cc))
-logged-step core (events.Crash image) ordered apart old h = logged_crash core image old h
-logged-step core events.Mount ordered apart old h = logged_mount core (recovered core (image_now core))
-
 pub logged-after : (core : Core) (event : Event) → IsKept core → case core event ≡ true → IsLogged (after core event)
-logged-after core event kept h = logged-step core event kept.ordered kept.apart kept.logged h
+logged-after core (events.Tag block kept) is h = logged_tag core block (if kept then On else Unsure) is.logged h
+logged-after core (events.Admit entry grant kept) is h = logged_admit core entry grant kept is.ordered is.logged h
+logged-after core (events.AdmitRead entry) is h = logged_query core entry is.ordered is.logged h
+logged-after core (events.Serve place answer) is h =
+    let asks = serves core place answer h in
+    logged_closed core place (track core.tracks place).gate is.logged (some_place is_unserved refl core.tracks place asks)
+    (unserved_dead (track core.tracks place).state asks)
+logged-after core (events.Mark place by kept) is h = logged_marked core place by kept is.ordered is.logged h
+logged-after core (events.Dispatch place) is h = logged_dispatch core place is.logged h
+logged-after core (events.BlockWrite place block left) is h = logged_written core place block left is.logged (writes core place block left h)
+logged-after core (events.Flush place block ok) is h =
+    logged_flushed core place block ok is.logged (both (nat_lt block BLOCKS) (has_block (track core.tracks place).state block) h).1
+logged-after core (events.Finish place end) is h =
+    logged_finished core place end is.apart is.logged (first_of_and (is_out (track core.tracks place).state) _ h)
+logged-after core (events.Skip place) is h =
+    logged_closed core place Off is.logged (some_place is_noop refl core.tracks place h) (noop_dead (track core.tracks place).state h)
+logged-after core (events.Trim block kept) is h = logged_trim core block (if kept then Off else Unsure) is.logged h
+logged-after core events.Settle is h =
+    logged_beside core None core.size core.sizes core.tags core.bytes core.loose core.crashed is.logged is.logged.mapped (λ d is. absurd (cc))
+logged-after core (events.Crash image) is h = logged_crash core image is.logged h
+logged-after core events.Mount is h = logged_mount core (recovered core (image_now core))
 
 as_many_tags : (core : Core) (image : Image) → is_image core image ≡ true → length image.tags ≡ length core.tags
 as_many_tags core image h =

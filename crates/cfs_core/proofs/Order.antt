@@ -462,12 +462,6 @@ ordered-after core events.Settle o h = record { places = o.places; same = o.same
 ordered-after core (events.Crash image) o h = ordered_crash core image o h
 ordered-after core events.Mount o h = ordered_mount core _
 
-pub ordered-run : (core : Core) (list : List Event) → IsOrdered core → IsRun core list → IsOrdered (after_all core list)
-ordered-run core [] o run = o
-ordered-run core (event ∷ list) o run =
-    let allowed = both (is_in_phase core.crashed event) (case core event) run.0 in
-    ordered-run (after core event) list (ordered-after core event o allowed.1) run.1
-
 pub ordered-empty : (core : Core) → IsFresh core → IsOrdered core
 ordered-empty core empty = record {
   places = rw empty.log tt;

@@ -77,7 +77,7 @@ byte_written file bytes from p low high =
     let here : from + (p - from) ≡ p = omega arith in
     rw here at ((put-writes file from bytes).written (p - from) (omega arith))
 
-byte_beside : (file : List ℕ) (bytes : List ℕ) (from p : ℕ) → (p < from) ⊎ (from + length bytes ≤ p) → get_or (put file from bytes) p 0 ≡ get_or file p 0
+pub byte_beside : (file : List ℕ) (bytes : List ℕ) (from p : ℕ) → (p < from) ⊎ (from + length bytes ≤ p) → get_or (put file from bytes) p 0 ≡ get_or file p 0
 byte_beside file bytes from p side = elim (cases_lt p (length file)) [
   | inl within ↦ (put-writes file from bytes).kept p within side
   | inr past ↦
@@ -117,7 +117,7 @@ if_some : (test : Bool) (b : Bool) → (if test then Some true else None) ≡ So
 if_some true b is = (refl, cc)
 if_some false b is = cc
 
-if_none : (test : Bool) → (if test then Some true else None) ≡ None → test ≡ false
+pub if_none : (test : Bool) → (if test then Some true else None) ≡ None → test ≡ false
 if_none true is = cc
 if_none false is = refl
 

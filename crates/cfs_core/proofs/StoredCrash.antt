@@ -26,7 +26,7 @@ use Rattle.cfs_core.specs.After.{crashed_to, mounted, sure_track, sure_tracks}
 use Rattle.cfs_core.proofs.Images.{at-next, image_now-is, opens-live, rests-stored, size-allowed, stored-past, stored-within}
 use Rattle.cfs_core.proofs.Kept.{IsFree, IsKept, IsLive, IsStored, IsUnserved, IsView, at, byte_of, file_at}
 use Rattle.cfs_core.proofs.Registers.{IsShaped, byte_in, byte_out, effect_by, holds-or-not, placed-effect, shaped-request}
-use Rattle.cfs_core.proofs.StoredFrames.{AreQuiet, IsQuiet, no_clash, quiet_follows, quiet_same, same_number, same_test, stored-follows}
+use Rattle.cfs_core.proofs.StoredFrames.{AreQuiet, IsQuiet, no_clash, only_size, quiet_follows, quiet_same, same_test, stored-follows}
 use Rattle.cfs_core.proofs.StoredTags.{mapped_at}
 
 -- ---- a crash
@@ -65,14 +65,6 @@ crash_rests : (core : Core) (image : Image) (p byte : ℕ) → is_image core ima
 crash_rests core image p byte h is =
     let now : get_or (map (λ bit. flag_of bit) image.tags) (p / BLOCK) Off ≡ flag_of (get_or image.tags (p / BLOCK) false) = sure_tag image.tags (p / BLOCK) in
     rw now (sure_rests (get_or image.tags (p / BLOCK) false) (get_or image.bytes p 0) byte (rests-stored core image p byte h is))
-
--- the only size there is
-only_size : (s n : ℕ) → ((s == n) || false) ≡ true → s ≡ n
-only_size s n h = pick (s == n) (same_number s n) h
-  where
-    pick : (b : Bool) → (b ≡ true → s ≡ n) → (b || false) ≡ true → s ≡ n
-    pick true same is = same refl
-    pick false same is = cc
 
 pub stored_crash : (core : Core) (image : Image) → IsKept core → is_image core image ≡ true → IsStored (crashed_to core image)
 stored_crash core image kept h =

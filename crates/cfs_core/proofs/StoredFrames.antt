@@ -27,6 +27,17 @@ same_test a b h = grind (arith, nat_tests)
 pub no_clash : (b : Bool) → b ≡ true → b ≡ false → ⊥
 no_clash b on off = cc
 
+pub or_cases : (a b : Bool) → (a || b) ≡ true → (a ≡ true) ⊎ (b ≡ true)
+or_cases true b h = inl refl
+or_cases false b h = inr h
+
+pub now_size : (core : Core) → is_size core core.size ≡ true
+now_size core = let own : (core.size == core.size) ≡ true = same_test core.size core.size refl in rw own refl
+
+-- the only size there is
+pub only_size : (s n : ℕ) → ((s == n) || false) ≡ true → s ≡ n
+only_size s n h = elim (or_cases (s == n) false h) [ inl same ↦ same_number s n same | inr none ↦ cc ]
+
 pub in_tracks : (test : State → Bool) (tracks : List Track) (k : ℕ) → test Closed ≡ false → test (get_or tracks k blank).state ≡ true → k < length tracks
 in_tracks test tracks k closed h = elim (cases_lt k (length tracks)) [
   | inl within ↦ within
@@ -115,6 +126,24 @@ still_free old new still stay v p free i less live alters = free i less (stay i 
 pub still_none : (old new : Core) → IsStill old new → StayLive old new → (p : ℕ) → ((i : ℕ) → IsLive new i → decides p (at new i).span ≡ None) → (i : ℕ) → IsLive old i → decides p (at old i).span ≡ None
 still_none old new still stay p none i live = rw (still.spans i) at (none i (stay i live))
 
+-- a track that is live or unserved only where it was
+pub record IsTamer (t was : Track) : Type 0 where
+  pub span : t.span ≡ was.span
+  pub unserved : is_unserved t.state ≡ true → is_unserved was.state ≡ true
+  pub lives : is_live t.state ≡ true → is_live was.state ≡ true
+
+pub tamer_same : (t : Track) → IsTamer t t
+tamer_same t = record { span = refl; unserved = λ h. h; lives = λ h. h }
+
+pub tamer_still : (old new : Core) → new.base ≡ old.base → new.log ≡ old.log → ((k : ℕ) → IsTamer (at new k) (at old k)) → IsStill old new
+tamer_still old new base log tamer = record {
+  base = base;
+  log = log;
+  spans = λ k. (tamer k).span;
+  unserved = λ k. (tamer k).unserved;
+  lives = λ k. (tamer k).lives;
+}
+
 -- ---- a track, and what it was
 
 pub record IsQuiet (t was : Track) : Type 0 where
@@ -143,13 +172,8 @@ pub quiet_put : (core : Core) (place : ℕ) (t : Track) → (place ≡ 0 → ⊥
 quiet_put core place t some quiet = at_put IsQuiet core.tracks place t some quiet_same quiet
 
 pub quiet_still : (old new : Core) → new.base ≡ old.base → new.log ≡ old.log → AreQuiet old new → IsStill old new
-quiet_still old new base log quiet = record {
-  base = base;
-  log = log;
-  spans = λ k. (quiet k).span;
-  unserved = λ k. (quiet k).unserved;
-  lives = λ k live. sym (quiet k).live ∙ live;
-}
+quiet_still old new base log quiet =
+    tamer_still old new base log (λ k. record { span = (quiet k).span; unserved = (quiet k).unserved; lives = λ live. sym (quiet k).live ∙ live })
 
 -- what the medium keeps where the tracks are quiet
 pub record Keeps (old new : Core) : Type 0 where

@@ -19,8 +19,8 @@ use Rattle.cfs_core.proofs.Apart.{any_none, live_only, not_true}
 use Rattle.cfs_core.proofs.Kept.{Alters, IsFree, IsKept, IsLive, IsStored, IsUnserved, IsView, at, decides, file_at}
 use Rattle.cfs_core.proofs.Legal.{both}
 use Rattle.cfs_core.proofs.Order.{same_or_not, some_place, track_is}
-use Rattle.cfs_core.proofs.Registers.{IsFull, change-full}
-use Rattle.cfs_core.proofs.StoredFrames.{Follows, IsStill, at_put, in_tracks, no_clash, still_altered, still_view, stored-follows}
+use Rattle.cfs_core.proofs.Registers.{IsFull, change-full, if_none}
+use Rattle.cfs_core.proofs.StoredFrames.{Follows, IsStill, IsTamer, at_put, in_tracks, no_clash, still_altered, still_view, stored-follows, tamer_same, tamer_still}
 use Rattle.cfs_core.proofs.StoredWrites.{meet_at}
 
 -- what the test says of the reads between
@@ -43,14 +43,10 @@ narrower Nothing (Range f t) p h full none = let over : t ≤ f = grind (arith, 
 narrower Nothing (From f) p h full none = cc
 narrower (Range s e) Nothing p h full none = refl
 narrower (Range s e) (Range f t) p h full none =
-    let past : nat_lt p e ≡ false = undecided (nat_lt p e) none in
+    let past : nat_lt p e ≡ false = if_none (nat_lt p e) none in
     let test : nat_lt p t ≡ false = beyond h full past in
     rw test refl
   where
-    undecided : (b : Bool) → (if b then Some true else None) ≡ None → b ≡ false
-    undecided true is = cc
-    undecided false is = refl
-
     beyond : (nat_le t f || (nat_le s f && nat_le t e)) ≡ true → f < t → nat_lt p e ≡ false → nat_lt p t ≡ false
     beyond over some past = grind (arith, nat_tests)
 narrower (Range s e) (From f) p h full none = cc
@@ -80,19 +76,6 @@ mark_parts core place by h =
     less_of : nat_lt place by ≡ true → place < by
     less_of test = grind (arith, nat_tests)
 
--- a track that is live or applied no more than it was
-record IsLess (t was : Track) : Type 0 where
-  pub span : t.span ≡ was.span
-  pub unserved : is_unserved t.state ≡ true → is_unserved was.state ≡ true
-  pub lives : is_live t.state ≡ true → is_live was.state ≡ true
-  pub applied : t.applied ≡ was.applied
-
-less_same : (t : Track) → IsLess t t
-less_same t = record { span = refl; unserved = λ h. h; lives = λ h. h; applied = refl }
-
-less_marked : (t : Track) → IsLess (marked t true) t
-less_marked t = record { span = refl; unserved = λ h. cc; lives = λ h. cc; applied = refl }
-
 marked_stored : (core : Core) (place by : ℕ) → IsKept core → IsMark core place by → IsStored (with_track core place (marked (track core.tracks place) true))
 marked_stored core place by kept mark =
     stored-follows core new (record {
@@ -100,7 +83,7 @@ marked_stored core place by kept mark =
       rested = λ w p view free is. is;
       sizes = λ s is. is;
       long = λ p none. (decided p none, refl);
-      applied = λ k live applied. ((less k).lives live, sym (less k).applied ∙ applied, (less k).span, refl);
+      applied = λ k live applied. (still.lives k live, sym (as_applied k) ∙ applied, still.spans k, refl);
       rested_applied = λ k p live applied alters is. is;
     })
     kept.stored_.short kept.stored_
@@ -114,11 +97,13 @@ marked_stored core place by kept mark =
     some_by : by ≡ 0 → ⊥
     some_by = some_place is_live refl core.tracks by mark.live
 
-    less : (k : ℕ) → IsLess (at new k) (at core k)
-    less = at_put IsLess core.tracks place (marked (track core.tracks place) true) some less_same (less_marked (track core.tracks place))
-
     still : IsStill core new
-    still = record { base = refl; log = refl; spans = λ k. (less k).span; unserved = λ k. (less k).unserved; lives = λ k. (less k).lives }
+    still =
+        tamer_still core new refl refl
+        (at_put IsTamer core.tracks place (marked (track core.tracks place) true) some tamer_same (record { span = refl; unserved = λ h. cc; lives = λ h. cc }))
+
+    as_applied : (k : ℕ) → (at new k).applied ≡ (at core k).applied
+    as_applied = at_put (λ t u. t.applied ≡ u.applied) core.tracks place (marked (track core.tracks place) true) some (λ u. refl) refl
 
     m : ℕ
     m = place - 1
@@ -183,9 +168,9 @@ marked_stored core place by kept mark =
     decided : (p : ℕ) → ((i : ℕ) → IsLive new i → decides p (at new i).span ≡ None) → (i : ℕ) → IsLive core i → decides p (at core i).span ≡ None
     decided p none i live = elim (same_or_not i m) [
       | inl same ↦
-          let by_b : decides p (at core b).span ≡ None = rw (less b).span at (none b (stays b (λ is. omega (arith, below)) live_b)) in
+          let by_b : decides p (at core b).span ≡ None = rw (still.spans b) at (none b (stays b (λ is. omega (arith, below)) live_b)) in
           rw same (narrower (at core b).span (at core m).span p covers (change-full core kept.logged m (kept.logged.live_changes m live_m)) by_b)
-      | inr other ↦ rw (less i).span at (none i (stays i other live))
+      | inr other ↦ rw (still.spans i) at (none i (stays i other live))
     ]
 
 pub stored_mark : (core : Core) (place by : ℕ) → IsKept core → may_mark core place by ≡ true → IsStored (with_track core place (marked (track core.tracks place) true))

@@ -21,7 +21,7 @@ use Rattle.cfs_core.proofs.Kept.{IsFree, IsKept, IsLive, IsStored, IsView, at, b
 use Rattle.cfs_core.proofs.Legal.{both}
 use Rattle.cfs_core.proofs.Moments.{or_right}
 use Rattle.cfs_core.proofs.Order.{in_range, same_or_not}
-use Rattle.cfs_core.proofs.StoredFrames.{in_tracks, no_clash, quiet_follows, quiet_same, same_number, same_test, stored-follows}
+use Rattle.cfs_core.proofs.StoredFrames.{in_tracks, no_clash, now_size, quiet_follows, quiet_same, same_number, same_test, stored-follows}
 use Rattle.cfs_core.proofs.StoredWrites.{meet_at}
 
 true_or_false : (b : Bool) → (b ≡ true) ⊎ (b ≡ false)
@@ -169,7 +169,7 @@ stored_trim core block kept is_kept h =
     (quiet_follows core (with_tag core block (if kept then Off else Unsure)) refl refl (λ k. quiet_same (at core k)) (record {
       free = λ w p view free is.
           trim_rests core block kept p (get_or (file_at core w) p 0) within on
-          (λ here. is_kept.stored_.zero_past w core.size p view now_size (omega arith) free) is;
+          (λ here. is_kept.stored_.zero_past w core.size p view (now_size core) (omega arith) free) is;
       sizes = λ s is. is;
       applied = λ k p live applied alters is.
           trim_rests core block kept p (byte_of core k p) within on
@@ -182,9 +182,6 @@ stored_trim core block kept is_kept h =
 
     at_most : nat_le core.size (BLOCK * block) ≡ true → core.size ≤ BLOCK * block
     at_most test = grind (arith, nat_tests)
-
-    now_size : is_size core core.size ≡ true
-    now_size = let own : (core.size == core.size) ≡ true = same_test core.size core.size refl in rw own refl
 
     apart : (k : ℕ) → has_live_in core.tracks (block_span block) ≡ false → IsLive core k → meets (at core k).span (block_span block) ≡ false
     apart k none live =

@@ -27,6 +27,7 @@ use Rattle.cfs_core.proofs.Kept.{Alters, IsFree, IsKept, IsLive, IsStored, IsUns
 use Rattle.cfs_core.proofs.Legal.{both}
 use Rattle.cfs_core.proofs.Moments.{or_right}
 use Rattle.cfs_core.proofs.Order.{some_place, track_is, writes}
+use Rattle.cfs_core.proofs.Registers.{byte_beside}
 use Rattle.cfs_core.proofs.StoredFrames.{AreQuiet, IsQuiet, Keeps, at_put, in_tracks, no_clash, quiet_follows, quiet_same, stored-follows}
 use Rattle.cfs_core.proofs.StoredQuiet.{quiet_live}
 
@@ -80,19 +81,13 @@ loose_more (x ∷ xs) s p out h = or_map (nat_le x.from p && nat_lt p x.to) (is_
 
 -- ---- the part of a span in a block
 
+ends_short : (from to : ℕ) → to ≤ BLOCK * (from / BLOCK) + BLOCK → nat_le to (BLOCK * (from / BLOCK) + BLOCK) ≡ true
+ends_short from to h = grind (arith, nat_tests)
+
 short_part : (s : Span) (block : ℕ) → is_short (record { from = start_in s block; to = end_in s block }) ≡ true
-short_part Nothing block = below (BLOCK * block) (BLOCK * block) (omega arith)
-  where
-    below : (a b : ℕ) → b ≤ BLOCK * (a / BLOCK) + BLOCK → nat_le b (BLOCK * (a / BLOCK) + BLOCK) ≡ true
-    below a b h = grind (arith, nat_tests)
-short_part (Range from to) block = below (max from (BLOCK * block)) (min to (BLOCK * block + BLOCK)) (omega arith)
-  where
-    below : (a b : ℕ) → b ≤ BLOCK * (a / BLOCK) + BLOCK → nat_le b (BLOCK * (a / BLOCK) + BLOCK) ≡ true
-    below a b h = grind (arith, nat_tests)
-short_part (From from) block = below (max from (BLOCK * block)) (BLOCK * block + BLOCK) (omega arith)
-  where
-    below : (a b : ℕ) → b ≤ BLOCK * (a / BLOCK) + BLOCK → nat_le b (BLOCK * (a / BLOCK) + BLOCK) ≡ true
-    below a b h = grind (arith, nat_tests)
+short_part Nothing block = ends_short (BLOCK * block) (BLOCK * block) (omega arith)
+short_part (Range from to) block = ends_short (max from (BLOCK * block)) (min to (BLOCK * block + BLOCK)) (omega arith)
+short_part (From from) block = ends_short (max from (BLOCK * block)) (BLOCK * block + BLOCK) (omega arith)
 
 part_holds : (s : Span) (block p : ℕ) → start_in s block ≤ p → p < end_in s block → Holds s p
 part_holds Nothing block p low high = absurd (omega arith)
@@ -103,17 +98,6 @@ piece_fits : (bytes : List ℕ) (s : Span) (block : ℕ) → length (piece_in by
 piece_fits bytes Nothing block = omega arith
 piece_fits bytes (Range from to) block = omega (arith, length-take (min to (BLOCK * block + BLOCK) - max from (BLOCK * block)) (drop (max from (BLOCK * block) - from) bytes))
 piece_fits bytes (From from) block = omega (arith, length-replicate {A = ℕ} (BLOCK * block + BLOCK - max from (BLOCK * block)) 0)
-
-beside : (file : List ℕ) (bytes : List ℕ) (from p : ℕ) → (p < from) ⊎ (from + length bytes ≤ p) → get_or (put file from bytes) p 0 ≡ get_or file p 0
-beside file bytes from p side = elim (cases_lt p (length file)) [
-  | inl within ↦ (put-writes file from bytes).kept p within side
-  | inr past ↦
-      let none : get_or file p 0 ≡ 0 = get_or_past file p 0 past in
-      elim side [
-        | inl before ↦ (put-writes file from bytes).gap p past before ∙ sym none
-        | inr behind ↦ get_or_past (put file from bytes) p 0 (omega (arith, (put-writes file from bytes).size)) ∙ sym none
-      ]
-]
 
 -- ---- what is out
 
@@ -186,7 +170,7 @@ written_rests core place block bytes ok p byte fits out is = elim (cases_lt p fr
 
     outside : (p < from) ⊎ (from + length bytes ≤ p) → ((nat_le from p && nat_lt p to) ≡ true → ⊥) → rests (written core place block bytes ok) p byte ≡ true
     outside side none =
-        let same : get_or (put core.bytes from bytes) p 0 ≡ get_or core.bytes p 0 = beside core.bytes bytes from p side in
+        let same : get_or (put core.bytes from bytes) p 0 ≡ get_or core.bytes p 0 = byte_beside core.bytes bytes from p side in
         rw same (rests_fewer (get_or core.tags (p / BLOCK) Off) (is_loose core.loose p) (is_loose (core.loose ++ record { from = from; to = to } ∷ []) p)
         (get_or core.bytes p 0) byte (loose_more core.loose (record { from = from; to = to }) p none) is)
 

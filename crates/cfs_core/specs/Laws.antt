@@ -1,36 +1,25 @@
 -- What holds of every run.
-use Rattle.std.specs.Prelude.{◌≡◌, ℕ, ◌<◌, true, false, List, [], map}
-use Rattle.std.specs.List.{list_all, list_any}
-use Rattle.cfs_file.specs.Log.{IsLegal}
+use Rattle.std.specs.Prelude.{◌≡◌, ℕ, ◌<◌, true, false, List}
+use Rattle.std.specs.List.{list_all}
 use Rattle.cfs_file.specs.Span.{meets, reaches_over}
 use Rattle.cfs_core.specs.declared.event.Event.{Event}
 use Rattle.cfs_core.specs.declared.inode_core.Core.{Core}
 use Rattle.cfs_core.specs.declared.image.Image.{Image}
 use Rattle.cfs_core.specs.Words.{is_live, is_off, is_out, track}
 use Rattle.cfs_core.specs.Fresh.{IsFresh}
-use Rattle.cfs_core.specs.Medium.{bit_at, is_image, is_open, live_entries}
+use Rattle.cfs_core.specs.Medium.{bit_at, is_image, is_open}
 use Rattle.cfs_core.specs.May.{may}
-use Rattle.cfs_core.specs.Good.{IsGood, Rises}
+use Rattle.cfs_core.specs.Good.{IsGood}
 use Rattle.cfs_core.specs.Within.{within}
-use Rattle.cfs_core.specs.Run.{IsRun, after_all, is_mount}
+use Rattle.cfs_core.specs.Run.{IsRun, after_all}
 
--- Until a mount, the log stays legal: places 1, 2, 3 and so on, and every file on the way short enough.
-abbrev pub LogsStayLegal : Type 0
-LogsStayLegal =
-    (core : Core) (events : List Event) → IsLegal core.base core.log [] → IsRun core events →
-    list_any is_mount events ≡ false → IsLegal (after_all core events).base (after_all core events).log []
+-- After each event of every run of a fresh core, mounts included, the core is good.
+abbrev pub RunsAreGood : Type 0
+RunsAreGood = (core : Core) (events : List Event) → IsFresh core → IsRun core events → IsGood (after_all core events)
 
 -- Each moment within an event is a failed event that may come where the event may.
 abbrev pub MomentsMayCome : Type 0
 MomentsMayCome = (core : Core) (event : Event) → may core event ≡ true → list_all (may core) (within core event) ≡ true
-
--- The live entries of every image of every run stand in the order of the numbers in their gates: those
--- of the log by place, and the request in doubt last.
-abbrev pub GatesRise : Type 0
-GatesRise =
-    (core : Core) (events : List Event) (image : Image) → IsFresh core → IsRun core events →
-    is_image (after_all core events) image ≡ true →
-    Rises 0 (map (λ e. e.place) (live_entries (after_all core events) image))
 
 -- In every image of every run, an entry whose gate is open and whose mark is not set is live.
 abbrev pub OnlyLiveAreOpen : Type 0
@@ -65,7 +54,3 @@ LiveAreOpen =
     (place : ℕ) → is_live (track (after_all core events).tracks place).state ≡ true →
     (track (after_all core events).tracks place).applied ≡ false → is_off (track (after_all core events).tracks place).mark ≡ true →
     is_open image place ≡ true
-
--- after each event of every run of a fresh core, mounts included
-abbrev pub RunsAreGood : Type 0
-RunsAreGood = (core : Core) (events : List Event) → IsFresh core → IsRun core events → IsGood (after_all core events)

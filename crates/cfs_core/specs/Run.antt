@@ -4,7 +4,6 @@ use Rattle.std.specs.List.{slice_get}
 use Rattle.cfs_file.specs.declared.entry.Entry.{Entry}
 use Rattle.cfs_file.specs.declared.span.Span.{Span}
 use Rattle.cfs_core.specs.declared.event.Event.{Event}
-use Rattle.cfs_core.specs.declared.event.Event.TheVariants as kinds
 use Rattle.cfs_core.specs.declared.event_refusal.EventRefusal.{EventRefusal}
 use Rattle.cfs_core.specs.declared.event_refusal.EventRefusal.TheVariants as refusals
 use Rattle.cfs_core.specs.declared.inode_core.Core.{Core}
@@ -52,19 +51,3 @@ IsSpanToAdmit (Err steps.NoMemory) core entry = Unit {0}
 abbrev pub OnRefused : EventRefusal → (ℕ → Type 0) → Type 0
 OnRefused (refusals.Refused at) holds = holds at
 OnRefused refusals.NoMemory holds = Unit {0}
-
-abbrev pub is_mount : Event → Bool
-is_mount (kinds.Tag block kept) = false
-is_mount (kinds.Admit entry grant kept) = false
-is_mount (kinds.AdmitRead entry) = false
-is_mount (kinds.Serve place answer) = false
-is_mount (kinds.Mark place by kept) = false
-is_mount (kinds.Dispatch place) = false
-is_mount (kinds.BlockWrite place block left) = false
-is_mount (kinds.Flush place block ok) = false
-is_mount (kinds.Finish place end) = false
-is_mount (kinds.Skip place) = false
-is_mount (kinds.Trim block kept) = false
-is_mount kinds.Settle = false
-is_mount (kinds.Crash image) = false
-is_mount kinds.Mount = true

@@ -1,7 +1,7 @@
 //! The core of one inode.
 
 ghost use Rattle.std.specs.Prelude.{◌≡◌, IfOk};
-ghost use Rattle.cfs_core.specs.Fresh.{IsEmpty};
+ghost use Rattle.cfs_core.specs.Fresh.{IsEmpty, IsFresh};
 
 use crate::{BLOCKS, Doubt, Flag, Items, Stretch, Track};
 use cfs_file::{Bytes, Entry, NoMemory};
@@ -36,7 +36,8 @@ pub struct Core {
 impl Core {
     /// The core of an empty file without blocks.
     pub fn empty(alloc: Global) -> Result<Core, NoMemory>
-        ensures { IfOk result IsEmpty }
+        ensures empty { IfOk result IsEmpty }
+        ensures fresh { IfOk result IsFresh }
     {
         let mut tags = Items::new(alloc);
         for block in 0..BLOCKS {

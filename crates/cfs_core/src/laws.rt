@@ -1,20 +1,16 @@
 //! What holds of every run, as contracts of functions that do nothing.
 
-ghost use Rattle.cfs_core.specs.Laws.{GatesRise, JobsAreApart, LiveAreOpen, LogsStayLegal, MarkedAreCovered, MomentsMayCome, OnlyLiveAreOpen};
+ghost use Rattle.cfs_core.specs.Laws.{JobsAreApart, LiveAreOpen, MarkedAreCovered, MomentsMayCome, OnlyLiveAreOpen, RunsAreGood};
 
-/// Until a mount, the log of every run stays legal.
-pub fn logs_stay_legal()
-    ensures { LogsStayLegal }
+/// After each event of every run of a fresh core, whatever failed and wherever it crashed, the log is
+/// legal, a read that may be served gets its answer, and every image recovers the file after the log.
+pub fn runs_are_good()
+    ensures { RunsAreGood }
 {}
 
 /// The moments within an event are failed events that may come where the event may.
 pub fn moments_may_come()
     ensures { MomentsMayCome }
-{}
-
-/// The live entries of every image stand in the order of the numbers in their gates.
-pub fn gates_rise()
-    ensures { GatesRise }
 {}
 
 /// What is open in an image is live: what was retired, skipped or marked is not recovered again.

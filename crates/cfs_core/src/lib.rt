@@ -36,8 +36,8 @@ pub use image::Image;
 pub use inode_core::Core;
 pub use items::Items;
 pub use laws::{
-    gates_rise, jobs_are_apart, live_are_open, logs_stay_legal, marked_are_covered,
-    moments_may_come, only_live_are_open,
+    jobs_are_apart, live_are_open, marked_are_covered, moments_may_come, only_live_are_open,
+    runs_are_good,
 };
 pub use medium::{image_now, is_image, recovered_file, stored_file};
 pub use run::run_events;

@@ -1,6 +1,8 @@
 //! A list of events.
 
 ghost use Rattle.std.specs.Prelude.{◌≡◌, IfOk, IfErr};
+ghost use Rattle.cfs_core.specs.Fresh.{IsFresh};
+ghost use Rattle.cfs_core.specs.Good.{IsGood};
 ghost use Rattle.cfs_core.specs.Run.{IsRun, OnRefused, IsRefusal, after_all};
 
 use crate::step::step;
@@ -10,10 +12,12 @@ use std::alloc::Global;
 
 /// Takes a core through a list of events. Slow: an admission and a mount go through the whole log.
 ///
-/// `Refused { at }` comes exactly where event `at`, counted from 0, is the first that may not come.
+/// `Refused { at }` comes exactly where event `at`, counted from 0, is the first that may not come. From
+/// a fresh core, the events come to a core whose every image recovers the file after the log.
 pub fn run_events(alloc: Global, core: Core, events: &[Event]) -> Result<Core, EventRefusal>
     ensures run { IfOk result (λ last. IsRun core events.now) }
     ensures made { IfOk result (λ last. last ≡ after_all core events.now) }
+    ensures good { IsFresh core → IfOk result IsGood }
     ensures refused { IfErr result (λ refusal. OnRefused refusal (λ at. IsRefusal at core events.now)) }
 {
     let mut core = core;
