@@ -23,9 +23,8 @@ use Rattle.cfs_core.specs.Words.{blank, can_be, flag_of, has_block, is_live, is_
 use Rattle.cfs_core.specs.Fresh.{IsFresh}
 use Rattle.cfs_core.specs.Jobs.{next_job, state_flushed, state_written}
 use Rattle.cfs_core.specs.Medium.{bit_at, is_image, is_open}
-use Rattle.cfs_core.specs.May.{case, ends_well, is_in_phase, may_finish, may_write, span_now}
+use Rattle.cfs_core.specs.May.{case, ends_well, may_finish, may_write, span_now}
 use Rattle.cfs_core.specs.After.{admitted, after, block_written, change_track, crashed_to, finished, flushed, logged, marked, more_to_come, put_back, query_track, retired, sure_track, sure_tracks, with_size, with_track}
-use Rattle.cfs_core.specs.Run.{IsRun, after_all}
 use Rattle.cfs_core.proofs.Legal.{both}
 use Rattle.cfs_core.proofs.Order.{first_of_and, gate_allowed, mark_allowed, as_many, same_or_not, some_place, track_is, writes, serves}
 

@@ -22,9 +22,8 @@ use Rattle.cfs_core.specs.declared.inode_core.Core.{Core}
 use Rattle.cfs_core.specs.Words.{blank, has_block, is_live, is_noop, is_out, is_unserved, is_waiting, sized, track}
 use Rattle.cfs_core.specs.Fresh.{IsFresh}
 use Rattle.cfs_core.specs.Jobs.{next_job, state_flushed, state_written}
-use Rattle.cfs_core.specs.May.{case, is_in_phase, may_dispatch, meets_live, span_now}
+use Rattle.cfs_core.specs.May.{case, may_dispatch, meets_live, span_now}
 use Rattle.cfs_core.specs.After.{admitted, after, block_written, change_track, crashed_to, finished, flushed, logged, marked, more_to_come, put_back, query_track, retired, sure_track, sure_tracks, with_size, with_state, with_track}
-use Rattle.cfs_core.specs.Run.{IsRun, after_all}
 use Rattle.cfs_core.proofs.Legal.{both, neither}
 use Rattle.cfs_core.proofs.Moments.{or_right}
 use Rattle.cfs_core.proofs.Order.{first_of_and, same_or_not, some_place, track_is, writes, serves}

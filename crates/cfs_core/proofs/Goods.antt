@@ -1,6 +1,5 @@
 -- The invariant gives all that is promised after each event.
-use Rattle.std.proofs.Common.{◌≡◌, inl, ℕ, ◌+◌, ◌≤◌, true, false, length, get_or, nat_lt, arith, refl, sym, ap, ◌∙◌}
-use Rattle.std.proofs.lemmas.Bool.{cases_lt}
+use Rattle.std.proofs.Common.{◌≡◌, inl, ℕ, ◌+◌, ◌≤◌, true, false, length, get_or, nat_lt, refl, sym, ap, ◌∙◌}
 use Rattle.cfs_file.specs.Span.{Holds}
 use Rattle.cfs_core.specs.declared.image.Image.{Image}
 use Rattle.cfs_core.specs.declared.inode_core.Core.{Core}
@@ -8,7 +7,7 @@ use Rattle.cfs_core.specs.Words.{is_live, track}
 use Rattle.cfs_core.specs.Medium.{file, is_image, stored, stored_byte}
 use Rattle.cfs_core.specs.Good.{IsGood}
 use Rattle.cfs_core.proofs.Images.{at-next, length-stored, rests-stored, size-allowed}
-use Rattle.cfs_core.proofs.Kept.{IsFree, IsKept, IsLive, at, decides, file_at}
+use Rattle.cfs_core.proofs.Kept.{IsFree, IsKept, IsLive, at, file_at}
 use Rattle.cfs_core.proofs.Order.{gates-rise}
 use Rattle.cfs_core.proofs.Recovers.{recovers, stored-free}
 use Rattle.cfs_core.proofs.Registers.{file_at-all, same-bits}

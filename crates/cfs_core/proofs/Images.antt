@@ -1,5 +1,5 @@
 -- What every image has: the sizes, bytes and entries that the core allows.
-use Rattle.std.proofs.Common.{◌≡◌, inl, inr, ℕ, suc, zero, ◌+◌, ◌-◌, ◌/◌, ◌<◌, ◌≤◌, ◌==◌, Bool, true, false, ◌&&◌, ◌||◌, not, if◌then◌else◌, Option, Some, None, List, [], ◌∷◌, length, map, get_or, arith, refl, sym, ◌∙◌}
+use Rattle.std.proofs.Common.{◌≡◌, inl, inr, ℕ, suc, zero, ◌+◌, ◌/◌, ◌<◌, ◌≤◌, ◌==◌, Bool, true, false, ◌&&◌, ◌||◌, not, if◌then◌else◌, length, map, get_or, arith, refl, sym, ◌∙◌}
 use Rattle.std.specs.List.{list_all, range_with_len}
 use Rattle.std.proofs.lemmas.Bool.{cases_lt}
 use Rattle.std.proofs.lemmas.Bool.Decides.{nat_tests}
@@ -9,11 +9,10 @@ use Rattle.cfs_core.specs.declared.block.TheConstants.{BLOCK}
 use Rattle.cfs_core.specs.declared.flag.Flag.{Flag}
 use Rattle.cfs_core.specs.declared.flag.Flag.TheVariants.{Off, On, Unsure}
 use Rattle.cfs_core.specs.declared.track.Track.{Track}
-use Rattle.cfs_core.specs.declared.doubt.Doubt.{Doubt}
 use Rattle.cfs_core.specs.declared.image.Image.{Image}
 use Rattle.cfs_core.specs.declared.inode_core.Core.{Core}
-use Rattle.cfs_core.specs.Words.{blank, can_be, is_live, is_off, is_on, track}
-use Rattle.cfs_core.specs.Medium.{agree, allow_bits, allow_gates, allow_marks, are_bytes, bytes_agree, doubt_gate, gates_agree, image_now, is_image, is_loose, is_open, is_size, marks_agree, rests, rests_as, stored, stored_byte}
+use Rattle.cfs_core.specs.Words.{blank, can_be, is_off, is_on, track}
+use Rattle.cfs_core.specs.Medium.{agree, allow_bits, are_bytes, bytes_agree, doubt_gate, gates_agree, image_now, is_image, is_loose, is_open, is_size, marks_agree, rests, rests_as, stored, stored_byte}
 use Rattle.cfs_core.proofs.Alive.{AreSound, lives-open, open-lives}
 use Rattle.cfs_core.proofs.Kept.{IsLive, at}
 use Rattle.cfs_core.proofs.Legal.{both}

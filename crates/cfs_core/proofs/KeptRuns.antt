@@ -1,7 +1,6 @@
 -- Each event keeps the invariant, so that every core of a run has it.
-use Rattle.std.proofs.Common.{◌≡◌, ℕ, ◌≤◌, Bool, true, false, Option, Some, None, List, [], ◌∷◌, ◌++◌, length, take, arith, refl, ap, ◌∙◌}
+use Rattle.std.proofs.Common.{◌≡◌, Bool, true, false, Option, Some, None, List, [], ◌∷◌, ◌++◌, length, take, arith, refl}
 use Rattle.std.proofs.lemmas.List.{append-nil, take_all}
-use Rattle.cfs_file.specs.declared.entry.Entry.{Entry}
 use Rattle.cfs_file.specs.File.{IsFile}
 use Rattle.cfs_file.specs.Log.{IsLegal, file_of}
 use Rattle.cfs_file.proofs.Logs.{IsLegal-none, file_of-append}
@@ -10,7 +9,7 @@ use Rattle.cfs_core.specs.declared.event.Event.{Event}
 use Rattle.cfs_core.specs.declared.event.Event.TheVariants as events
 use Rattle.cfs_core.specs.declared.inode_core.Core.{Core}
 use Rattle.cfs_core.specs.Fresh.{IsFresh}
-use Rattle.cfs_core.specs.Medium.{doubt_gate, file, image_now, in_doubt, recovered}
+use Rattle.cfs_core.specs.Medium.{file, image_now, in_doubt, recovered}
 use Rattle.cfs_core.specs.May.{case, is_in_phase}
 use Rattle.cfs_core.specs.After.{after}
 use Rattle.cfs_core.specs.Run.{IsRun, after_all}

@@ -27,8 +27,7 @@ use Rattle.cfs_core.specs.declared.event.SizeEnd.TheVariants as sizes
 use Rattle.cfs_core.specs.Fresh.{IsFresh}
 use Rattle.cfs_core.specs.Jobs.{state_flushed, state_written}
 use Rattle.cfs_core.specs.Medium.{agree, allow_gates, allow_marks, bit_at, bytes_agree, doubt_gate, file, gates_agree, is_image, is_open, is_size, live_entries, marks_agree, open_entries, placed_doubt, placed_entry}
-use Rattle.cfs_core.specs.Run.{IsRun, after_all}
-use Rattle.cfs_core.specs.May.{case, fits, is_change, is_in_phase, is_mapped, is_next, may_admit, may_flush, may_serve, may_write, span_now}
+use Rattle.cfs_core.specs.May.{case, fits, is_change, is_mapped, is_next, may_admit, may_flush, may_serve, may_write, span_now}
 use Rattle.cfs_core.specs.After.{admitted, after, block_written, change_track, crashed_to, finished, flushed, logged, marked, mounted, query_track, sure_doubt, sure_track, sure_tracks, with_size, with_state, with_track}
 use Rattle.cfs_core.specs.Good.{Rises}
 use Rattle.cfs_core.proofs.Legal.{both}

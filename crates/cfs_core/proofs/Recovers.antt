@@ -1,29 +1,29 @@
 -- Every image recovers the file after the log, and then the request in doubt where its gate is open.
-use Rattle.std.proofs.Common.{◌≡◌, ◌⊎◌, inl, inr, ℕ, suc, zero, ◌+◌, ◌<◌, ◌≤◌, ◌||◌, max, Bool, true, false, if◌then◌else◌, cond, Option, Some, None, List, [], ◌∷◌, ◌++◌, length, take, filter, map, get_or, nat_lt, arith, refl, sym, ap, ◌∙◌, subst}
+use Rattle.std.proofs.Common.{◌≡◌, ◌⊎◌, inl, inr, ℕ, suc, zero, ◌+◌, ◌<◌, ◌≤◌, max, Bool, true, false, if◌then◌else◌, Option, Some, None, List, [], ◌∷◌, ◌++◌, length, take, filter, map, get_or, nat_lt, arith, refl, sym, ap, ◌∙◌, subst}
 use Rattle.std.specs.List.{slice_get}
 use Rattle.std.proofs.lemmas.Bool.{cases_lt, lt-ltb, ltb-true}
-use Rattle.std.proofs.lemmas.List.{append-nil, map-append, take_all}
+use Rattle.std.proofs.lemmas.List.{map-append, take_all}
 use Rattle.std.proofs.lemmas.List.Elements.{filter-append}
 use Rattle.cfs_file.specs.declared.entry.Entry.{Entry}
 use Rattle.cfs_file.specs.declared.span.Span.{Span}
 use Rattle.cfs_file.specs.declared.span.Span.TheVariants.{Nothing, Range, From}
 use Rattle.cfs_file.specs.File.{effect}
 use Rattle.cfs_file.specs.Log.{file_of}
-use Rattle.cfs_file.specs.Span.{Holds, meets, reaches_over, span}
+use Rattle.cfs_file.specs.Span.{Holds, meets, span}
 use Rattle.cfs_file.proofs.Logs.{file_of-append}
 use Rattle.cfs_file.proofs.Spans.{meets-overlap, reaches_over-covers}
 use Rattle.cfs_core.specs.declared.track.Track.{Track}
 use Rattle.cfs_core.specs.declared.doubt.Doubt.{Doubt}
 use Rattle.cfs_core.specs.declared.image.Image.{Image}
 use Rattle.cfs_core.specs.declared.inode_core.Core.{Core}
-use Rattle.cfs_core.specs.Words.{byte_at, is_live, is_off, payload, payload_of, sized, track}
+use Rattle.cfs_core.specs.Words.{byte_at, is_live, is_off, payload, sized, track}
 use Rattle.cfs_core.specs.Medium.{file, in_doubt, is_image, is_open, open_entries, placed, placed_doubt, placed_entry, recovered, stored}
 use Rattle.cfs_core.specs.May.{is_change}
 use Rattle.cfs_core.proofs.Apart.{AreApart, is_busy}
 use Rattle.cfs_core.proofs.Images.{at-next, length-stored, live-opens, opens, opens-live, rests-read, size-allowed}
 use Rattle.cfs_core.proofs.Kept.{Alters, IsChange, IsDoubtful, IsFree, IsKept, IsLast, IsLive, IsLogged, at, byte_of, decides, file_at, is_changing}
 use Rattle.cfs_core.proofs.Moments.{or_right}
-use Rattle.cfs_core.proofs.Registers.{IsFull, Settles, an-entry-at, change-effect, change-full, change-within, clash, effect_by, file_at-all, file_at-last, find, find-decider, holds-or-not, longer-last, made, made-last, made-longer_last, made-longer_none, made-none, placed-effect, same-bits, settled, step, take-next, unsettled}
+use Rattle.cfs_core.proofs.Registers.{IsFull, Settles, an-entry-at, change-effect, change-full, change-within, clash, file_at-all, file_at-last, find, find-decider, holds-or-not, longer-last, made, made-last, made-longer_last, made-longer_none, made-none, placed-effect, same-bits, settled, step, take-next, unsettled}
 
 -- ---- spans
 

@@ -1,13 +1,11 @@
 -- The bytes of a read that may be served are those that it asks for, of the file before it.
-use Rattle.std.proofs.Common.{◌≡◌, inl, inr, ℕ, ◌+◌, ◌-◌, ◌/◌, ◌<◌, ◌≤◌, ◌==◌, Bool, true, false, ◌&&◌, not, if◌then◌else◌, Option, Some, None, List, [], ◌∷◌, length, take, drop, min, get_or, nat_lt, arith, refl, sym, ap, ◌∙◌, length-take, length-drop, get_or-take, get_or-drop, ext_get_or}
+use Rattle.std.proofs.Common.{◌≡◌, inr, ℕ, ◌+◌, ◌-◌, ◌/◌, ◌<◌, ◌≤◌, ◌==◌, Bool, true, false, ◌&&◌, not, if◌then◌else◌, Some, List, length, take, drop, min, get_or, nat_lt, arith, refl, sym, ◌∙◌, length-take, length-drop, get_or-take, get_or-drop, ext_get_or}
 use Rattle.std.specs.List.{list_any, slice_get}
-use Rattle.std.proofs.lemmas.Bool.{cases_lt, lt-ltb, ltb-true}
 use Rattle.std.proofs.lemmas.Bool.Decides.{nat_tests}
 use Rattle.std.proofs.lemmas.List.{nil_from_length}
 use Rattle.cfs_file.specs.declared.entry.Entry.{Entry}
 use Rattle.cfs_file.specs.declared.request.Request.{Request}
 use Rattle.cfs_file.specs.declared.request.Request.TheVariants as requests
-use Rattle.cfs_file.specs.declared.span.Span.{Span}
 use Rattle.cfs_file.specs.declared.span.Span.TheVariants.{Nothing, Range}
 use Rattle.cfs_file.specs.File.{answer}
 use Rattle.cfs_file.specs.Span.{Holds, between, meets, span}
@@ -17,7 +15,7 @@ use Rattle.cfs_core.specs.declared.flag.Flag.{Flag}
 use Rattle.cfs_core.specs.declared.flag.Flag.TheVariants.{Off, On, Unsure}
 use Rattle.cfs_core.specs.declared.event.Event.TheVariants as events
 use Rattle.cfs_core.specs.declared.inode_core.Core.{Core}
-use Rattle.cfs_core.specs.Words.{blocks_needed, is_lent, is_live, is_on, is_unserved, positions, start_of, end_of, track}
+use Rattle.cfs_core.specs.Words.{blocks_needed, is_lent, is_live, is_on, is_unserved, track}
 use Rattle.cfs_core.specs.Medium.{is_loose, is_size, reads, rests, rests_as}
 use Rattle.cfs_core.specs.May.{are_stored, has_live, is_in_phase, is_query, is_sync, is_sync_at, is_sync_request, may, meets_live, may_serve, read_alike}
 use Rattle.cfs_core.specs.Good.{bytes_of, file_before}

@@ -1,6 +1,6 @@
 -- Each event keeps what is stored.
 use Rattle.std.proofs.Common.{◌≡◌, true, false, if◌then◌else◌, None}
-use Rattle.cfs_core.specs.declared.flag.Flag.TheVariants.{Off, On, Unsure}
+use Rattle.cfs_core.specs.declared.flag.Flag.TheVariants.{On, Unsure}
 use Rattle.cfs_core.specs.declared.event.Event.{Event}
 use Rattle.cfs_core.specs.declared.event.Event.TheVariants as events
 use Rattle.cfs_core.specs.declared.inode_core.Core.{Core}

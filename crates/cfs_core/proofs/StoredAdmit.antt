@@ -1,12 +1,10 @@
 -- An entry that is logged keeps what is stored: a new view at the end sees the file before where the entry
 -- has no position.
-use Rattle.std.proofs.Common.{◌≡◌, ◌⊎◌, inl, inr, ℕ, suc, zero, ◌+◌, ◌-◌, ◌<◌, ◌≤◌, ◌==◌, Bool, true, false, ◌&&◌, Option, Some, None, List, [], ◌∷◌, ◌++◌, length, take, get_or, arith, refl, sym, ap, ◌∙◌, subst, length-append, is_none, nat_lt}
+use Rattle.std.proofs.Common.{◌≡◌, ◌⊎◌, inl, inr, ℕ, suc, zero, ◌-◌, ◌<◌, ◌≤◌, Bool, true, false, ◌&&◌, Some, None, List, [], ◌∷◌, ◌++◌, length, take, get_or, arith, refl, sym, ap, length-append, is_none, nat_lt}
 use Rattle.std.specs.List.{slice_get}
 use Rattle.std.proofs.lemmas.Bool.{cases_lt}
 use Rattle.std.proofs.lemmas.List.{get_or_append_left, get_or-append_right, get_or_past, take_all}
 use Rattle.cfs_file.specs.declared.entry.Entry.{Entry}
-use Rattle.cfs_file.specs.declared.request.Request.{Request}
-use Rattle.cfs_file.specs.declared.span.Span.{Span}
 use Rattle.cfs_file.specs.File.{effect}
 use Rattle.cfs_file.specs.Log.{file_of}
 use Rattle.cfs_file.specs.Span.{Holds, span}
@@ -18,11 +16,11 @@ use Rattle.cfs_core.specs.Words.{blank, is_live, is_unserved, payload_of}
 use Rattle.cfs_core.specs.Medium.{file}
 use Rattle.cfs_core.specs.May.{fits, is_change, is_mapped, is_next, is_query, may_admit, may_admit_read, span_now}
 use Rattle.cfs_core.specs.After.{admitted, change_track, logged, query_track}
-use Rattle.cfs_core.proofs.Kept.{Alters, IsChange, IsFree, IsKept, IsLive, IsStored, IsUnserved, IsView, at, decides, file_at, is_changing}
+use Rattle.cfs_core.proofs.Kept.{Alters, IsFree, IsKept, IsLive, IsStored, IsUnserved, IsView, at, decides, file_at}
 use Rattle.cfs_core.proofs.Legal.{both}
 use Rattle.cfs_core.proofs.Order.{same_or_not}
-use Rattle.cfs_core.proofs.Registers.{Settles, byte_out, change-effect, effect_by, file_at-all, long_kept, none-settles, query-effect, shaped-request}
-use Rattle.cfs_core.proofs.StoredFrames.{Follows, in_tracks, no_clash, stored-follows}
+use Rattle.cfs_core.proofs.Registers.{byte_out, change-effect, effect_by, file_at-all, long_kept, none-settles, query-effect, shaped-request}
+use Rattle.cfs_core.proofs.StoredFrames.{in_tracks, no_clash, stored-follows}
 use Rattle.cfs_core.proofs.StoredQuiet.{stored_doubt}
 
 before_last : (log : List Entry) (last : Entry) (k : ℕ) → k < length log → slice_get (log ++ last ∷ []) k ≡ slice_get log k

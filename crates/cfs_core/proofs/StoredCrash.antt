@@ -1,5 +1,5 @@
 -- A crash and a mount keep what is stored: the image that is left is one of those before.
-use Rattle.std.proofs.Common.{◌≡◌, ◌⊎◌, inl, inr, ℕ, suc, zero, ◌+◌, ◌/◌, ◌<◌, ◌≤◌, ◌==◌, Bool, true, false, ◌&&◌, ◌||◌, not, cond, if◌then◌else◌, Option, Some, None, List, [], ◌∷◌, ◌++◌, length, map, filter, take, get_or, arith, refl, sym, ap, ◌∙◌, subst, nat_lt}
+use Rattle.std.proofs.Common.{◌≡◌, inl, inr, ℕ, suc, ◌+◌, ◌/◌, ◌==◌, Bool, true, false, cond, if◌then◌else◌, Option, Some, None, List, [], ◌∷◌, length, map, filter, get_or, arith, refl, sym, ◌∙◌, subst}
 use Rattle.std.specs.List.{slice_get}
 use Rattle.std.proofs.lemmas.Bool.{cases_lt}
 use Rattle.std.proofs.lemmas.List.{get_or-map, get_or_past, length-map}
@@ -20,11 +20,11 @@ use Rattle.cfs_core.specs.declared.doubt.Doubt.{Doubt}
 use Rattle.cfs_core.specs.declared.image.Image.{Image}
 use Rattle.cfs_core.specs.declared.inode_core.Core.{Core}
 use Rattle.cfs_core.specs.Words.{blank, flag_of, is_live, is_on, is_unserved, payload_of, track}
-use Rattle.cfs_core.specs.Medium.{image_now, is_image, is_open, is_size, open_entries, placed, placed_doubt, placed_entry, recovered, rests, rests_as, stored, stored_byte}
+use Rattle.cfs_core.specs.Medium.{image_now, is_image, is_open, open_entries, placed, placed_doubt, placed_entry, recovered, rests, rests_as, stored, stored_byte}
 use Rattle.cfs_core.specs.May.{is_change, is_mapped}
 use Rattle.cfs_core.specs.After.{crashed_to, mounted, sure_track, sure_tracks}
 use Rattle.cfs_core.proofs.Images.{at-next, image_now-is, opens-live, rests-stored, size-allowed, stored-past, stored-within}
-use Rattle.cfs_core.proofs.Kept.{IsFree, IsKept, IsLive, IsStored, IsUnserved, IsView, at, byte_of, file_at}
+use Rattle.cfs_core.proofs.Kept.{IsKept, IsLive, IsStored, IsView, at, byte_of, file_at}
 use Rattle.cfs_core.proofs.Registers.{IsShaped, byte_in, byte_out, effect_by, holds-or-not, placed-effect, shaped-request}
 use Rattle.cfs_core.proofs.StoredFrames.{AreQuiet, IsQuiet, no_clash, only_size, quiet_follows, quiet_same, same_test, stored-follows}
 use Rattle.cfs_core.proofs.StoredTags.{mapped_at}

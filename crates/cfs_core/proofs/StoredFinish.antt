@@ -1,7 +1,7 @@
 -- An entry that comes home keeps what is stored: retired, its bytes stand for the file's wherever it was the
 -- last live one; put back, it stays live.
-use Rattle.std.proofs.Common.{◌≡◌, ◌⊎◌, inl, inr, ℕ, ◌+◌, ◌-◌, ◌/◌, ◌<◌, ◌≤◌, ◌==◌, Bool, true, false, ◌&&◌, ◌||◌, if◌then◌else◌, Option, Some, None, List, [], ◌∷◌, ◌++◌, length, get_or, set, max, min, arith, refl, sym, ap, ◌∙◌, get_or-set_other, nat_lt, nat_le}
-use Rattle.std.specs.List.{list_all, list_any, slice_get}
+use Rattle.std.proofs.Common.{◌≡◌, ◌⊎◌, inl, inr, ℕ, ◌+◌, ◌-◌, ◌/◌, ◌<◌, ◌≤◌, ◌==◌, Bool, true, false, ◌&&◌, ◌||◌, if◌then◌else◌, Option, Some, None, List, [], ◌∷◌, ◌++◌, length, get_or, set, max, min, arith, refl, sym, ◌∙◌, get_or-set_other, nat_lt}
+use Rattle.std.specs.List.{list_any, slice_get}
 use Rattle.std.proofs.lemmas.Bool.{cases_lt, lt-ltb, ltb-true}
 use Rattle.std.proofs.lemmas.Bool.Decides.{nat_tests}
 use Rattle.std.proofs.lemmas.Grind.{get_or-set_at}
@@ -10,7 +10,7 @@ use Rattle.cfs_file.specs.declared.span.Span.{Span}
 use Rattle.cfs_file.specs.declared.span.Span.TheVariants.{Nothing, Range, From}
 use Rattle.cfs_file.specs.declared.file.TheConstants.{LONGEST_FILE}
 use Rattle.cfs_file.specs.Span.{Holds, meets}
-use Rattle.cfs_core.specs.declared.block.TheConstants.{BLOCK, BLOCKS}
+use Rattle.cfs_core.specs.declared.block.TheConstants.{BLOCK}
 use Rattle.cfs_core.specs.declared.flag.Flag.{Flag}
 use Rattle.cfs_core.specs.declared.flag.Flag.TheVariants.{Off, On, Unsure}
 use Rattle.cfs_core.specs.declared.track.Track.{Track}
@@ -19,21 +19,21 @@ use Rattle.cfs_core.specs.declared.event.End.TheVariants as ends
 use Rattle.cfs_core.specs.declared.event.SizeEnd.{SizeEnd}
 use Rattle.cfs_core.specs.declared.event.SizeEnd.TheVariants as sizes
 use Rattle.cfs_core.specs.declared.inode_core.Core.{Core}
-use Rattle.cfs_core.specs.Words.{blank, byte_at, end_of, is_live, is_off, is_on, is_out, is_through, is_unserved, payload, payload_at, positions, sized, start_of, track}
+use Rattle.cfs_core.specs.Words.{blank, byte_at, end_of, is_live, is_off, is_on, is_out, is_through, is_unserved, payload, sized, start_of, track}
 use Rattle.cfs_core.specs.Medium.{file, is_loose, is_size, rests, rests_as, stands}
 use Rattle.cfs_core.specs.May.{ends_well, is_mapped, is_size_set, keep_all, keeps_size, may_finish, stands_at}
 use Rattle.cfs_core.specs.After.{finished, put_back, retired, with_track}
 use Rattle.cfs_core.proofs.Alive.{out_lives}
 use Rattle.cfs_core.proofs.Apart.{is_busy, out_busy}
-use Rattle.cfs_core.proofs.Kept.{Alters, IsChange, IsFree, IsKept, IsLast, IsLive, IsStored, IsUnserved, IsView, at, byte_of, decides, file_at}
+use Rattle.cfs_core.proofs.Kept.{Alters, IsChange, IsFree, IsKept, IsLast, IsLive, IsStored, IsView, at, byte_of, decides, file_at}
 use Rattle.cfs_core.proofs.Legal.{both}
 use Rattle.cfs_core.proofs.Moments.{or_right}
 use Rattle.cfs_core.proofs.Order.{in_range, same_or_not, some_place, track_is}
 use Rattle.cfs_core.proofs.Registers.{IsFull, alters-or-not, change-full, change-within, clash, file_at-all, file_at-last, find-decider, if_none, longer-last}
-use Rattle.cfs_core.proofs.StoredFrames.{IsStill, IsTamer, StayLive, at_put, in_tracks, no_clash, now_size, only_size, or_cases, same_number, still_altered, still_alters, still_byte, still_file, still_file_at, still_free, still_none, still_view, tamer_same, tamer_still}
+use Rattle.cfs_core.proofs.StoredFrames.{IsStill, IsTamer, StayLive, at_put, in_tracks, no_clash, now_size, only_size, or_cases, same_number, still_altered, still_alters, still_byte, still_free, still_none, still_view, tamer_same, tamer_still}
 use Rattle.cfs_core.proofs.StoredQuiet.{stored_more}
 use Rattle.cfs_core.proofs.StoredTags.{mapped_at}
-use Rattle.cfs_core.proofs.StoredWrites.{applied_busy, meet_at, not_free}
+use Rattle.cfs_core.proofs.StoredWrites.{applied_busy, not_free}
 
 -- ---- the size that an entry leaves
 

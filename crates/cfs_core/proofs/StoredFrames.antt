@@ -1,5 +1,5 @@
 -- What an event that leaves the log, or the medium, as it is keeps of the medium's part of the invariant.
-use Rattle.std.proofs.Common.{◌≡◌, ◌⊎◌, inl, inr, ℕ, ◌-◌, ◌<◌, ◌==◌, Bool, true, false, ◌&&◌, ◌||◌, Option, Some, None, List, length, take, get_or, set, arith, refl, sym, ap, ◌∙◌, subst, nat_lt}
+use Rattle.std.proofs.Common.{◌≡◌, ◌⊎◌, inl, inr, ℕ, ◌-◌, ◌<◌, ◌==◌, Bool, true, false, ◌||◌, None, List, length, get_or, set, arith, refl, sym, ap, ◌∙◌, subst, nat_lt}
 use Rattle.std.specs.List.{list_all, slice_get}
 use Rattle.std.proofs.lemmas.Bool.{cases_lt}
 use Rattle.std.proofs.lemmas.Bool.Decides.{nat_tests}
@@ -11,7 +11,7 @@ use Rattle.cfs_core.specs.declared.state.State.{State}
 use Rattle.cfs_core.specs.declared.state.State.TheVariants.{Closed}
 use Rattle.cfs_core.specs.declared.track.Track.{Track}
 use Rattle.cfs_core.specs.declared.inode_core.Core.{Core}
-use Rattle.cfs_core.specs.Words.{blank, is_live, is_unserved, payload, track}
+use Rattle.cfs_core.specs.Words.{blank, is_live, is_unserved, track}
 use Rattle.cfs_core.specs.Medium.{file, is_size, rests}
 use Rattle.cfs_core.specs.After.{with_track}
 use Rattle.cfs_core.proofs.Kept.{Alters, IsChange, IsFree, IsLive, IsStored, IsUnserved, IsView, at, byte_of, decides, file_at, is_changing, is_short}

@@ -1,10 +1,8 @@
 -- A mark that is kept keeps what is stored: the entry that covers the marked one takes over.
-use Rattle.std.proofs.Common.{◌≡◌, ◌⊎◌, inl, inr, ℕ, ◌+◌, ◌-◌, ◌<◌, ◌≤◌, Bool, true, false, ◌&&◌, ◌||◌, not, if◌then◌else◌, Option, Some, None, List, length, take, drop, get_or, set, arith, refl, sym, ap, ◌∙◌, length-drop, length-take, get_or-set_other, nat_lt, nat_le}
-use Rattle.std.specs.List.{list_any, slice_get}
+use Rattle.std.proofs.Common.{◌≡◌, inl, inr, ℕ, ◌+◌, ◌-◌, ◌<◌, ◌≤◌, true, false, ◌&&◌, ◌||◌, not, None, List, take, drop, get_or, arith, refl, sym, ap, ◌∙◌, length-drop, length-take, get_or-set_other, nat_lt, nat_le}
 use Rattle.std.proofs.lemmas.Bool.{cases_lt}
 use Rattle.std.proofs.lemmas.Bool.Decides.{nat_tests}
 use Rattle.std.proofs.lemmas.List.{get_or-drop, get_or-take}
-use Rattle.cfs_file.specs.declared.entry.Entry.{Entry}
 use Rattle.cfs_file.specs.declared.span.Span.{Span}
 use Rattle.cfs_file.specs.declared.span.Span.TheVariants.{Nothing, Range, From}
 use Rattle.cfs_file.specs.Span.{Holds, meets, reaches_over}
@@ -16,11 +14,11 @@ use Rattle.cfs_core.specs.May.{may_mark, needed_between}
 use Rattle.cfs_core.specs.After.{marked, with_track}
 use Rattle.cfs_core.proofs.Alive.{unserved_dead, waiting_lives}
 use Rattle.cfs_core.proofs.Apart.{any_none, live_only, not_true}
-use Rattle.cfs_core.proofs.Kept.{Alters, IsFree, IsKept, IsLive, IsStored, IsUnserved, IsView, at, decides, file_at}
+use Rattle.cfs_core.proofs.Kept.{Alters, IsFree, IsKept, IsLive, IsStored, IsView, at, decides}
 use Rattle.cfs_core.proofs.Legal.{both}
 use Rattle.cfs_core.proofs.Order.{same_or_not, some_place, track_is}
 use Rattle.cfs_core.proofs.Registers.{IsFull, change-full, if_none}
-use Rattle.cfs_core.proofs.StoredFrames.{Follows, IsStill, IsTamer, at_put, in_tracks, no_clash, still_altered, still_view, stored-follows, tamer_same, tamer_still}
+use Rattle.cfs_core.proofs.StoredFrames.{IsStill, IsTamer, at_put, in_tracks, no_clash, still_altered, still_view, stored-follows, tamer_same, tamer_still}
 use Rattle.cfs_core.proofs.StoredWrites.{meet_at}
 
 -- what the test says of the reads between

@@ -1,5 +1,5 @@
 -- The events that leave the medium and the liveness of each entry as they are keep what is stored.
-use Rattle.std.proofs.Common.{◌≡◌, ℕ, Bool, true, false, ◌&&◌, Option, Some, None, List, refl, sym, ◌∙◌}
+use Rattle.std.proofs.Common.{◌≡◌, ℕ, true, false, Option, List, refl, sym, ◌∙◌}
 use Rattle.cfs_core.specs.declared.state.State.{State}
 use Rattle.cfs_core.specs.declared.state.State.TheVariants.{Waiting, Out, Noop, Unserved, Closed}
 use Rattle.cfs_core.specs.declared.track.Track.{Track}
@@ -12,7 +12,7 @@ use Rattle.cfs_core.specs.After.{marked, more_to_come, retired, with_doubt, with
 use Rattle.cfs_core.proofs.Alive.{out_lives, unserved_dead, waiting_lives}
 use Rattle.cfs_core.proofs.Kept.{IsStored}
 use Rattle.cfs_core.proofs.Order.{first_of_and, serves, some_place}
-use Rattle.cfs_core.proofs.StoredFrames.{IsQuiet, no_clash, stored_put}
+use Rattle.cfs_core.proofs.StoredFrames.{IsQuiet, stored_put}
 
 live_unread : (s : State) → is_live s ≡ true → is_unserved s ≡ true → ⊥
 live_unread Waiting live unread = cc

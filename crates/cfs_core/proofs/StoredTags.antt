@@ -1,23 +1,23 @@
 -- The tags of blocks that are mapped and freed keep what is stored: such a block is zero in every image.
 use Rattle.std.proofs.Common.{◌≡◌, ◌⊎◌, inl, inr, ℕ, suc, zero, ◌+◌, ◌-◌, ◌*◌, ◌/◌, ◌<◌, ◌≤◌, ◌==◌, Bool, true, false, ◌&&◌, ◌||◌, not, if◌then◌else◌, List, [], ◌∷◌, length, take, drop, get_or, set, arith, refl, sym, ap, ◌∙◌, length-drop, length-take, get_or-set_other, nat_lt, nat_le}
-use Rattle.std.specs.List.{list_all, list_any}
+use Rattle.std.specs.List.{list_all}
 use Rattle.std.proofs.lemmas.Bool.{cases_lt}
 use Rattle.std.proofs.lemmas.Bool.Decides.{nat_tests}
 use Rattle.std.proofs.lemmas.Grind.{get_or-set_at}
 use Rattle.std.proofs.lemmas.List.{get_or-drop, get_or-take, get_or_past}
 use Rattle.cfs_file.specs.declared.span.Span.TheVariants.{Range}
-use Rattle.cfs_file.specs.Span.{Holds, meets}
+use Rattle.cfs_file.specs.Span.{meets}
 use Rattle.cfs_core.specs.declared.block.TheConstants.{BLOCK, BLOCKS}
 use Rattle.cfs_core.specs.declared.flag.Flag.{Flag}
 use Rattle.cfs_core.specs.declared.flag.Flag.TheVariants.{Off, On, Unsure}
 use Rattle.cfs_core.specs.declared.stretch.Stretch.{Stretch}
 use Rattle.cfs_core.specs.declared.inode_core.Core.{Core}
-use Rattle.cfs_core.specs.Words.{blank, block_span, is_live, is_lent, is_off, is_on}
-use Rattle.cfs_core.specs.Medium.{is_loose, is_size, rests, rests_as}
+use Rattle.cfs_core.specs.Words.{block_span, is_live, is_lent, is_off, is_on}
+use Rattle.cfs_core.specs.Medium.{is_loose, rests, rests_as}
 use Rattle.cfs_core.specs.May.{doubt_meets, has_live_in, in_block, is_mapped, is_written, is_zero_block, may_tag, may_trim}
 use Rattle.cfs_core.specs.After.{with_tag}
 use Rattle.cfs_core.proofs.Apart.{any_none, live_only, not_true}
-use Rattle.cfs_core.proofs.Kept.{IsFree, IsKept, IsLive, IsStored, IsView, at, byte_of, file_at, is_short}
+use Rattle.cfs_core.proofs.Kept.{IsKept, IsLive, IsStored, at, byte_of, file_at, is_short}
 use Rattle.cfs_core.proofs.Legal.{both}
 use Rattle.cfs_core.proofs.Moments.{or_right}
 use Rattle.cfs_core.proofs.Order.{in_range, same_or_not}

@@ -1,14 +1,13 @@
 -- The writes and flushes of a block keep what is stored.
-use Rattle.std.proofs.Common.{◌≡◌, ◌⊎◌, inl, inr, ℕ, ◌+◌, ◌-◌, ◌*◌, ◌/◌, ◌<◌, ◌≤◌, ◌==◌, Bool, true, false, ◌&&◌, ◌||◌, not, cond, Option, Some, None, List, [], ◌∷◌, ◌++◌, length, take, drop, filter, get_or, max, min, arith, refl, sym, ap, ◌∙◌, length-take, nat_lt, nat_le}
-use Rattle.std.specs.List.{list_all, list_any, slice_get}
-use Rattle.std.proofs.lemmas.Bool.{cases_lt, lt-ltb, ltb-true}
+use Rattle.std.proofs.Common.{◌≡◌, ◌⊎◌, inl, inr, ℕ, ◌+◌, ◌-◌, ◌*◌, ◌/◌, ◌<◌, ◌≤◌, ◌==◌, Bool, true, false, ◌&&◌, ◌||◌, not, cond, Option, Some, None, List, [], ◌∷◌, ◌++◌, length, drop, filter, get_or, max, min, arith, refl, length-take, nat_lt, nat_le}
+use Rattle.std.specs.List.{list_all}
+use Rattle.std.proofs.lemmas.Bool.{cases_lt}
 use Rattle.std.proofs.lemmas.Bool.Decides.{nat_tests}
-use Rattle.std.proofs.lemmas.List.{get_or_past, length-replicate}
+use Rattle.std.proofs.lemmas.List.{length-replicate}
 use Rattle.cfs_file.specs.declared.span.Span.{Span}
 use Rattle.cfs_file.specs.declared.span.Span.TheVariants.{Nothing, Range, From}
 use Rattle.cfs_file.specs.File.{put}
-use Rattle.cfs_file.specs.Span.{Holds, Overlap, meets}
-use Rattle.cfs_file.proofs.Positions.{put-writes}
+use Rattle.cfs_file.specs.Span.{Holds, meets}
 use Rattle.cfs_file.proofs.Spans.{meets-overlap}
 use Rattle.cfs_core.specs.declared.block.TheConstants.{BLOCK, BLOCKS}
 use Rattle.cfs_core.specs.declared.flag.Flag.{Flag}
@@ -16,19 +15,19 @@ use Rattle.cfs_core.specs.declared.flag.Flag.TheVariants.{Off, On, Unsure}
 use Rattle.cfs_core.specs.declared.track.Track.{Track}
 use Rattle.cfs_core.specs.declared.stretch.Stretch.{Stretch}
 use Rattle.cfs_core.specs.declared.inode_core.Core.{Core}
-use Rattle.cfs_core.specs.Words.{blank, end_in, has_block, is_live, is_out, is_unserved, payload_at, piece_in, start_in, track}
+use Rattle.cfs_core.specs.Words.{end_in, has_block, is_live, is_out, payload_at, piece_in, start_in, track}
 use Rattle.cfs_core.specs.Jobs.{state_flushed, state_written}
 use Rattle.cfs_core.specs.Medium.{is_loose, rests, rests_as}
 use Rattle.cfs_core.specs.May.{in_block, may_flush, may_write}
 use Rattle.cfs_core.specs.After.{block_written, flushed, written}
-use Rattle.cfs_core.proofs.Alive.{block_lives, flushed_lives, out_lives, unserved_dead, written_lives}
+use Rattle.cfs_core.proofs.Alive.{block_lives, flushed_lives, unserved_dead, written_lives}
 use Rattle.cfs_core.proofs.Apart.{block_out, is_busy, out_busy}
-use Rattle.cfs_core.proofs.Kept.{Alters, IsFree, IsKept, IsLive, IsStored, IsUnserved, IsView, at, byte_of, file_at, is_short}
+use Rattle.cfs_core.proofs.Kept.{IsFree, IsKept, IsLive, IsStored, IsView, at, byte_of, file_at, is_short}
 use Rattle.cfs_core.proofs.Legal.{both}
 use Rattle.cfs_core.proofs.Moments.{or_right}
 use Rattle.cfs_core.proofs.Order.{some_place, track_is, writes}
 use Rattle.cfs_core.proofs.Registers.{byte_beside}
-use Rattle.cfs_core.proofs.StoredFrames.{AreQuiet, IsQuiet, Keeps, at_put, in_tracks, no_clash, quiet_follows, quiet_same, stored-follows}
+use Rattle.cfs_core.proofs.StoredFrames.{AreQuiet, IsQuiet, at_put, in_tracks, no_clash, quiet_follows, quiet_same, stored-follows}
 use Rattle.cfs_core.proofs.StoredQuiet.{quiet_live}
 
 -- ---- stretches

@@ -1,5 +1,5 @@
 -- Lists of events.
-use Rattle.std.specs.Prelude.{◌≡◌, ℕ, Bool, true, false, Some, List, [], ◌∷◌, take, Result, Ok, Err}
+use Rattle.std.specs.Prelude.{◌≡◌, ℕ, true, false, Some, List, [], ◌∷◌, take, Result, Ok, Err}
 use Rattle.std.specs.List.{slice_get}
 use Rattle.cfs_file.specs.declared.entry.Entry.{Entry}
 use Rattle.cfs_file.specs.declared.span.Span.{Span}
