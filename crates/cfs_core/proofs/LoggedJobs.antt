@@ -24,7 +24,7 @@ use Rattle.cfs_core.proofs.StoredFrames.{no_clash}
 use Rattle.cfs_core.proofs.LoggedFrames.{IsAlone, IsClear, IsCovered, logged_medium, logged_put}
 use Rattle.cfs_core.proofs.Alive.{unserved_dead}
 
-pub covered_at : (core : Core) (place : ℕ) → IsLogged core → (place ≡ 0 → ⊥) → is_off (track core.tracks place).mark ≡ false → IsCovered core (place - 1)
+covered_at : (core : Core) (place : ℕ) → IsLogged core → (place ≡ 0 → ⊥) → is_off (track core.tracks place).mark ≡ false → IsCovered core (place - 1)
 covered_at core place logged some off = logged.covered (place - 1) (rw (track_is core.tracks place (place - 1) some refl) at off)
 
 pub idle_at : (core : Core) (place block : ℕ) → IsLogged core → (place ≡ 0 → ⊥) → (track core.tracks place).applied ≡ true →
