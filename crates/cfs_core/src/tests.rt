@@ -328,6 +328,11 @@ fn every_run_recovers_its_file(rt: HostRuntime) -> Result<(), Fail> {
             b"abcd".as_slice(),
         ),
         (
+            "an append behind a gap that a later write stored",
+            "tag 0;put 1 0 0123456789;append 2 0 abcdefghij;put 3 50 ABCDEFGHIJ;dispatch 3;write 3 0;flush 3 0;retire 3;crash;mount",
+            b"0123456789abcdefghij\0\0\0\0\0\0\0\0\0\0\0\0\0\0\0\0\0\0\0\0\0\0\0\0\0\0\0\0\0\0ABCDEFGHIJ".as_slice(),
+        ),
+        (
             "a truncate takes its blocks two by two",
             "tag 0;tag 1;tag 2;cut 1 9000;cut 2 0;dispatch 1;write 1 2;flush 1 2;retire 1;dispatch 2;write 2 0;write 2 1;flush 2 0;flush 2 1;more 2;dispatch 2;write 2 2;flush 2 2;retire 2",
             b"".as_slice(),
