@@ -15,7 +15,7 @@ use Rattle.cfs_core.proofs.Alive.{sound-empty}
 use Rattle.cfs_core.proofs.Apart.{apart-empty}
 use Rattle.cfs_core.proofs.Kept.{IsKept, IsLive, IsStored, IsUnserved, IsView, at, file_at}
 use Rattle.cfs_core.proofs.Legal.{both}
-use Rattle.cfs_core.proofs.Logged.{logged-fresh}
+use Rattle.cfs_core.proofs.LoggedCrash.{logged-fresh}
 use Rattle.cfs_core.proofs.Moments.{and_all}
 use Rattle.cfs_core.proofs.Order.{ordered-empty}
 

@@ -8,7 +8,10 @@ pub mod Kept
 pub mod KeptRuns
 pub mod Legal
 pub mod Logged
+pub mod LoggedCrash
 pub mod LoggedFrames
+pub mod LoggedJobs
+pub mod LoggedMarks
 pub mod LoggedPush
 pub mod LoggedTags
 pub mod Moments

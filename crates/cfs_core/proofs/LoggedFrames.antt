@@ -28,7 +28,7 @@ abbrev pub IsAlone : Core → ℕ → Type 0
 IsAlone core k = (v i p : ℕ) → IsView core v p → IsLast core v p k → i < k → IsLive core i → Alters core i p → ⊥
 
 -- What other tracks keep of those of a core.
-pub record Follows (core : Core) (tracks : List Track) : Type 0 where
+pub record TracksFollow (core : Core) (tracks : List Track) : Type 0 where
   pub span : (k : ℕ) → (get_or tracks k blank).span ≡ (at core k).span
   pub live : (k : ℕ) → is_live (get_or tracks k blank).state ≡ true → IsLive core k
   pub asks : (k : ℕ) → is_unserved (get_or tracks k blank).state ≡ true → IsUnserved core k
@@ -37,7 +37,7 @@ pub record Follows (core : Core) (tracks : List Track) : Type 0 where
   pub mark : (k : ℕ) → is_off (get_or tracks k blank).mark ≡ false → IsCovered core k
   pub falls : (k : ℕ) → IsLive core k → (is_live (get_or tracks k blank).state ≡ true) ⊎ IsAlone core k
 
-pub logged_follows : (core : Core) (tracks : List Track) → IsLogged core → Follows core tracks → IsLogged (record core { tracks = tracks })
+pub logged_follows : (core : Core) (tracks : List Track) → IsLogged core → TracksFollow core tracks → IsLogged (record core { tracks = tracks })
 logged_follows core tracks logged follows = record {
   kinds = logged.kinds;
   spans = λ k entry is. rw (follows.span k) (logged.spans k entry is);
@@ -128,7 +128,7 @@ pub record Replaces (core : Core) (place : ℕ) (t : Track) : Type 0 where
   pub mark : is_off t.mark ≡ false → IsCovered core (place - 1)
   pub falls : is_live (track core.tracks place).state ≡ true → (is_live t.state ≡ true) ⊎ IsAlone core (place - 1)
 
-follows_put : (core : Core) (place : ℕ) (t : Track) → IsLogged core → Replaces core place t → Follows core (set core.tracks (place - 1) t)
+follows_put : (core : Core) (place : ℕ) (t : Track) → IsLogged core → Replaces core place t → TracksFollow core (set core.tracks (place - 1) t)
 follows_put core place t logged put = record {
   span = λ k. elim (seen core.tracks place t k) [
     | inl here ↦ let was = old k here.0 in rw (here.1, put.span, was) refl

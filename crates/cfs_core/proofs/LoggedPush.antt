@@ -1,5 +1,5 @@
 -- A logged entry keeps the log's part of the invariant: it is the last at its positions.
-use Rattle.std.proofs.Common.{◌≡◌, ◌⊎◌, inl, inr, ℕ, suc, zero, ◌+◌, ◌-◌, ◌<◌, ◌≤◌, Bool, true, false, not, Some, List, [], ◌∷◌, ◌++◌, length, take, get_or, arith, refl, sym, ◌∙◌, length-append}
+use Rattle.std.proofs.Common.{◌≡◌, ◌⊎◌, inl, inr, ℕ, suc, zero, ◌+◌, ◌-◌, ◌<◌, ◌≤◌, Bool, true, false, not, Some, List, [], ◌∷◌, ◌++◌, length, take, get_or, arith, refl, sym, ◌∙◌, length-append, Option, None, is_none}
 use Rattle.std.specs.List.{slice_get}
 use Rattle.std.proofs.lemmas.Bool.{cases_Bool, cases_lt}
 use Rattle.std.proofs.lemmas.List.{get_or_append_left, get_or-append_right, get_or_past, take_all}
@@ -13,14 +13,16 @@ use Rattle.cfs_core.specs.declared.doubt.Doubt.{Doubt}
 use Rattle.cfs_core.specs.declared.inode_core.Core.{Core}
 use Rattle.cfs_core.specs.Words.{blank, is_live, is_off, is_unserved}
 use Rattle.cfs_core.specs.Medium.{file}
-use Rattle.cfs_core.specs.May.{is_change, is_mapped, is_query}
-use Rattle.cfs_core.specs.After.{logged}
+use Rattle.cfs_core.specs.May.{is_change, is_mapped, is_query, fits, is_next, may_admit, may_admit_read, span_now}
+use Rattle.cfs_core.specs.After.{logged, admitted, change_track, query_track}
 use Rattle.cfs_core.proofs.Apart.{is_busy, not_true}
-use Rattle.cfs_core.proofs.Order.{same_or_not}
+use Rattle.cfs_core.proofs.Order.{same_or_not, IsOrdered}
 use Rattle.cfs_core.proofs.Kept.{Alters, IsChange, IsLast, IsLive, IsLogged, IsView, at}
-use Rattle.cfs_core.proofs.Registers.{change-within, holds-or-not}
+use Rattle.cfs_core.proofs.Registers.{change-within, holds-or-not, query-effect, query-no_change}
 use Rattle.cfs_core.proofs.StoredFrames.{no_clash}
-use Rattle.cfs_core.proofs.LoggedFrames.{IsCovered}
+use Rattle.cfs_core.proofs.LoggedFrames.{IsCovered, logged_beside}
+use Rattle.cfs_core.specs.declared.flag.Flag.TheVariants.{Unsure}
+use Rattle.cfs_core.proofs.Legal.{at_most, both}
 
 -- ---- lists with one element more
 
@@ -55,7 +57,7 @@ tested test none tracks t k h = elim (cases_lt k (length tracks)) [
 ]
 
 -- What is kept of an entry that is logged.
-pub record Joins (core : Core) (entry : Entry) (t : Track) : Type 0 where
+record Joins (core : Core) (entry : Entry) (t : Track) : Type 0 where
   pub same : length core.tracks ≡ length core.log
   pub span : t.span ≡ span entry.request (length (file core))
   pub kind : (is_change entry.request ≡ true) ⊎ (is_query entry.request ≡ true)
@@ -67,7 +69,7 @@ pub record Joins (core : Core) (entry : Entry) (t : Track) : Type 0 where
   pub mapped : is_live t.state ≡ true → is_mapped core.tags t.span ≡ true
   pub doubt : (d : Doubt) → core.doubt ≡ Some d → effect (file core) entry.request ≡ file core
 
-pub logged_push : (core : Core) (entry : Entry) (t : Track) → IsLogged core → Joins core entry t → IsLogged (logged core entry t)
+logged_push : (core : Core) (entry : Entry) (t : Track) → IsLogged core → Joins core entry t → IsLogged (logged core entry t)
 logged_push core entry t kept joins = record {
   kinds = λ k e is. elim (slice_get-snoc core.log entry k e is) [
     | inl within ↦ kept.kinds k e within.1
@@ -213,3 +215,56 @@ logged_push core entry t kept joins = record {
             )
       ]
     ]
+
+-- ---- admissions
+
+none_some : (o : Option Doubt) (d : Doubt) → is_none o ≡ true → o ≡ Some d → ⊥
+none_some None d none is = cc
+none_some (Some e) d none is = cc
+
+pub logged_admit : (core : Core) (entry : Entry) (grant : ℕ) (kept : Bool) → IsOrdered core → IsLogged core → may_admit core entry ≡ true →
+    IsLogged (admitted core entry grant kept)
+logged_admit core entry grant true ordered old h =
+    let calm = both (is_none core.doubt) _ h in
+    let next = both (is_next core entry) _ calm.1 in
+    let change = both (is_change entry.request) _ next.1 in
+    let blocks = both (fits (file core) entry.request) (is_mapped core.tags (span_now core entry.request)) change.1 in
+    logged_push core entry (change_track grant (span_now core entry.request)) old (record {
+      same = ordered.same;
+      span = refl;
+      kind = inl change.0;
+      live = sym change.0;
+      asks = λ asks. cc;
+      idle = refl;
+      unapplied = refl;
+      unmarked = refl;
+      mapped = λ live. blocks.1;
+      doubt = λ d is. absurd (none_some core.doubt d calm.0 is);
+    })
+logged_admit core entry grant false ordered old h =
+    let calm = both (is_none core.doubt) _ h in
+    let next = both (is_next core entry) _ calm.1 in
+    let change = both (is_change entry.request) _ next.1 in
+    let blocks = both (fits (file core) entry.request) (is_mapped core.tags (span_now core entry.request)) change.1 in
+    logged_beside core (Some (record { entry = entry; grant = grant; span = span_now core entry.request; gate = Unsure }))
+    core.size core.sizes core.tags core.bytes core.loose core.crashed old old.mapped
+    (λ d is.
+    let same : d ≡ record { entry = entry; grant = grant; span = span_now core entry.request; gate = Unsure } = cc in
+    rw same (record { change = change.0; span_is = refl; mapped = blocks.1; fits = at_most _ _ blocks.0 }))
+
+pub logged_query : (core : Core) (entry : Entry) → IsOrdered core → IsLogged core → may_admit_read core entry ≡ true →
+    IsLogged (logged core entry (query_track (span_now core entry.request)))
+logged_query core entry ordered old h =
+    let query = both (is_next core entry) (is_query entry.request) h in
+    logged_push core entry (query_track (span_now core entry.request)) old (record {
+      same = ordered.same;
+      span = refl;
+      kind = inr query.1;
+      live = sym (query-no_change entry.request query.1);
+      asks = λ asks. query.1;
+      idle = refl;
+      unapplied = refl;
+      unmarked = refl;
+      mapped = λ live. cc;
+      doubt = λ d is. query-effect entry.request (file core) query.1;
+    })

@@ -48,7 +48,7 @@ crash_quiet core image k = elim (cases_lt k (length core.tracks)) [
     sure : (t : Track) (gate mark : Bool) → IsQuiet (sure_track t gate mark) t
     sure t gate mark = record { span = refl; unserved = λ h. h; live = refl; applied = refl }
 
-sure_tag : (tags : List Bool) (k : ℕ) → get_or (map (λ bit. flag_of bit) tags) k Off ≡ flag_of (get_or tags k false)
+pub sure_tag : (tags : List Bool) (k : ℕ) → get_or (map (λ bit. flag_of bit) tags) k Off ≡ flag_of (get_or tags k false)
 sure_tag tags k = elim (cases_lt k (length tags)) [
   | inl within ↦ get_or-map (λ bit. flag_of bit) tags k false Off within
   | inr past ↦

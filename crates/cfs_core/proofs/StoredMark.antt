@@ -22,7 +22,7 @@ use Rattle.cfs_core.proofs.StoredFrames.{IsStill, IsTamer, at_put, in_tracks, no
 use Rattle.cfs_core.proofs.StoredWrites.{meet_at}
 
 -- what the test says of the reads between
-not_needed : (tracks : List Track) (place by : ℕ) (span : Span) → needed_between tracks place by span ≡ false → (v : ℕ) → place ≤ v → v < by - 1 →
+pub not_needed : (tracks : List Track) (place by : ℕ) (span : Span) → needed_between tracks place by span ≡ false → (v : ℕ) → place ≤ v → v < by - 1 →
     is_unserved (get_or tracks v blank).state ≡ true → meets (get_or tracks v blank).span span ≡ false
 not_needed tracks place by span none v low high unserved =
     let within = in_tracks is_unserved tracks v refl unserved in

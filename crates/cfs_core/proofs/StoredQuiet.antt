@@ -21,7 +21,7 @@ live_unread Noop live unread = cc
 live_unread Unserved live unread = cc
 live_unread Closed live unread = cc
 
-noop_dead : (s : State) → is_noop s ≡ true → is_live s ≡ false
+pub noop_dead : (s : State) → is_noop s ≡ true → is_live s ≡ false
 noop_dead Waiting h = cc
 noop_dead (Out job) h = cc
 noop_dead Noop h = refl
