@@ -14,17 +14,17 @@ use Rattle.cfs_core.proofs.Registers.{file_at-all, same-bits}
 use Rattle.cfs_core.proofs.Served.{served}
 
 -- where no entry is live
-none-live : (core : Core) → ((place : ℕ) → is_live (track core.tracks place).state ≡ false) → (k : ℕ) → IsLive core k → ⊥
-none-live core none k live =
+nothing-live : (core : Core) → ((place : ℕ) → is_live (track core.tracks place).state ≡ false) → (k : ℕ) → IsLive core k → ⊥
+nothing-live core none k live =
     let off : is_live (at core k).state ≡ false = rw (at-next core k) at (none (k + 1)) in
     cc
 
 drained : (core : Core) → IsKept core → (image : Image) → is_image core image ≡ true → ((place : ℕ) → is_live (track core.tracks place).state ≡ false) → stored image ≡ file core
 drained core kept image h none =
     same-bits (stored image) (file_at core (length core.log))
-    (λ p. stored-free core kept image h p (λ i less live alters. none-live core none i live))
+    (λ p. stored-free core kept image h p (λ i less live alters. nothing-live core none i live))
     (λ p. ap (λ (n : ℕ). nat_lt p n) (length-stored image)
-    ∙ (kept.stored_.long image.size p (size-allowed core image h) (λ i live. absurd (none-live core none i live))
+    ∙ (kept.stored_.long image.size p (size-allowed core image h) (λ i live. absurd (nothing-live core none i live))
     ∙ ap (λ f. nat_lt p (length f)) (sym (file_at-all core))))
     ∙ file_at-all core
 

@@ -14,8 +14,9 @@ use Rattle.cfs_core.specs.declared.inode_core.Core.{Core}
 use Rattle.cfs_core.specs.Words.{blank, can_be, is_off, is_on, track}
 use Rattle.cfs_core.specs.Medium.{agree, allow_bits, are_bytes, bytes_agree, doubt_gate, gates_agree, image_now, is_image, is_loose, is_open, is_size, marks_agree, rests, rests_as, stored, stored_byte}
 use Rattle.cfs_core.proofs.Alive.{AreSound, lives-open, open-lives}
+use Rattle.cfs_core.proofs.Apart.{not_true}
 use Rattle.cfs_core.proofs.Kept.{IsLive, at}
-use Rattle.cfs_core.proofs.Legal.{both}
+use Rattle.cfs_core.proofs.Legal.{both, same_number}
 use Rattle.cfs_core.proofs.Moments.{and_all, or_right}
 use Rattle.cfs_core.proofs.Order.{in_range, track_is}
 
@@ -71,13 +72,6 @@ byte-allowed core image p h firm =
     ]
 
 -- ---- what rests is stored
-
-same_number : (a b : ℕ) → (a == b) ≡ true → a ≡ b
-same_number a b h = grind (arith, nat_tests)
-
-not_true : (b : Bool) → not b ≡ true → b ≡ false
-not_true true h = cc
-not_true false h = refl
 
 rests_byte : (flag : Flag) (bit loose : Bool) (stands byte b : ℕ) → can_be flag bit ≡ true → (loose ≡ false → b ≡ stands) → rests_as flag loose stands byte ≡ true →
     (if bit then b else 0) ≡ byte

@@ -58,8 +58,8 @@ query_file file (requests.Truncate n) h is = cc
 query_file file (requests.Read offset count) h is = is
 query_file file requests.Sync h is = is
 
-place_is : (place n : ℕ) → (place == n) ≡ true → place ≡ n
-place_is place n h = grind (arith, nat_tests)
+pub same_number : (a b : ℕ) → (a == b) ≡ true → a ≡ b
+same_number a b h = grind (arith, nat_tests)
 
 pub at_most : (a b : ℕ) → nat_le a b ≡ true → a ≤ b
 at_most a b h = grind (arith, nat_tests)
@@ -74,7 +74,7 @@ admit core entry grant true legal may_be =
     let next = both _ _ rest.1 in
     let change = both _ _ next.1 in
     let fits = both _ _ change.1 in
-    IsLegal-next core.base core.log entry legal (place_is _ _ next.0) (at_most _ _ fits.0)
+    IsLegal-next core.base core.log entry legal (same_number _ _ next.0) (at_most _ _ fits.0)
 
 abbrev pub is_mount : Event → Bool
 is_mount (events.Tag block kept) = false
@@ -97,7 +97,7 @@ legal-after core (events.Tag block kept) legal may_be calm = legal
 legal-after core (events.Admit entry grant kept) legal may_be calm = admit core entry grant kept legal may_be
 legal-after core (events.AdmitRead entry) legal may_be calm =
     let rest = both _ _ may_be in
-    IsLegal-next core.base core.log entry legal (place_is _ _ rest.0)
+    IsLegal-next core.base core.log entry legal (same_number _ _ rest.0)
     (query_file _ entry.request rest.1 (file_now core.base core.log legal))
 legal-after core (events.Serve place answer) legal may_be calm = legal
 legal-after core (events.Mark place by kept) legal may_be calm = legal

@@ -183,7 +183,7 @@ clash (From k) (From n) p first second full =
 -- ---- two lists are one
 
 pub same-bits : (xs ys : List ℕ) → ((p : ℕ) → get_or xs p 0 ≡ get_or ys p 0) → ((p : ℕ) → nat_lt p (length xs) ≡ nat_lt p (length ys)) → xs ≡ ys
-same-bits xs ys bytes bits = ext_get_or 0 xs ys (same_number (length xs) (length ys) bits) (λ p within. bytes p)
+same-bits xs ys bytes bits = ext_get_or 0 xs ys (same_length (length xs) (length ys) bits) (λ p within. bytes p)
   where
     below : (a b : ℕ) → ((p : ℕ) → nat_lt p a ≡ nat_lt p b) → b < a → ⊥
     below a b same less =
@@ -192,8 +192,8 @@ same-bits xs ys bytes bits = ext_get_or 0 xs ys (same_number (length xs) (length
         let own : b < b = ltb-true b b other in
         omega arith
 
-    same_number : (a b : ℕ) → ((p : ℕ) → nat_lt p a ≡ nat_lt p b) → a ≡ b
-    same_number a b same = elim (cases_lt a b) [
+    same_length : (a b : ℕ) → ((p : ℕ) → nat_lt p a ≡ nat_lt p b) → a ≡ b
+    same_length a b same = elim (cases_lt a b) [
       | inl less ↦ absurd (below b a (λ p. sym (same p)) less)
       | inr up ↦ elim (cases_lt b a) [ inl more ↦ absurd (below a b same more) | inr down ↦ omega arith ]
     ]

@@ -21,11 +21,8 @@ use Rattle.cfs_core.specs.May.{are_stored, has_live, is_in_phase, is_query, is_s
 use Rattle.cfs_core.specs.Good.{bytes_of, file_before}
 use Rattle.cfs_core.proofs.Apart.{none_before, not_true}
 use Rattle.cfs_core.proofs.Kept.{IsFree, IsKept, IsUnserved, IsView, at, file_at, is_asking}
-use Rattle.cfs_core.proofs.Legal.{both}
+use Rattle.cfs_core.proofs.Legal.{both, same_number}
 use Rattle.cfs_core.proofs.Order.{in_range, some_place, track_is}
-
-same_number : (a b : ℕ) → (a == b) ≡ true → a ≡ b
-same_number a b h = grind (arith, nat_tests)
 
 -- ---- what is read where a byte rests
 

@@ -26,11 +26,11 @@ use Rattle.cfs_core.specs.After.{finished, put_back, retired, with_track}
 use Rattle.cfs_core.proofs.Alive.{out_lives}
 use Rattle.cfs_core.proofs.Apart.{is_busy, out_busy}
 use Rattle.cfs_core.proofs.Kept.{Alters, IsChange, IsFree, IsKept, IsLast, IsLive, IsStored, IsView, at, byte_of, decides, file_at}
-use Rattle.cfs_core.proofs.Legal.{both}
+use Rattle.cfs_core.proofs.Legal.{both, same_number}
 use Rattle.cfs_core.proofs.Moments.{or_right}
 use Rattle.cfs_core.proofs.Order.{in_range, same_or_not, some_place, track_is}
 use Rattle.cfs_core.proofs.Registers.{IsFull, alters-or-not, change-full, change-within, clash, file_at-all, file_at-last, find-decider, if_none, longer-last}
-use Rattle.cfs_core.proofs.StoredFrames.{IsStill, IsTamer, StayLive, at_put, in_tracks, no_clash, now_size, only_size, or_cases, same_number, still_altered, still_alters, still_byte, still_free, still_none, still_view, tamer_same, tamer_still}
+use Rattle.cfs_core.proofs.StoredFrames.{IsStill, IsTamer, StayLive, at_put, in_tracks, no_clash, now_size, only_size, or_cases, still_altered, still_alters, still_byte, still_free, still_none, still_view, tamer_same, tamer_still}
 use Rattle.cfs_core.proofs.StoredQuiet.{stored_more}
 use Rattle.cfs_core.proofs.StoredTags.{mapped_at}
 use Rattle.cfs_core.proofs.StoredWrites.{applied_busy, not_free}

@@ -16,10 +16,8 @@ use Rattle.cfs_core.specs.Medium.{file, is_size, rests}
 use Rattle.cfs_core.specs.After.{with_track}
 use Rattle.cfs_core.proofs.Kept.{Alters, IsChange, IsFree, IsLive, IsStored, IsUnserved, IsView, at, byte_of, decides, file_at, is_changing, is_short}
 use Rattle.cfs_core.proofs.Apart.{seen}
+use Rattle.cfs_core.proofs.Legal.{same_number}
 use Rattle.cfs_core.proofs.Order.{track_is}
-
-pub same_number : (a b : ℕ) → (a == b) ≡ true → a ≡ b
-same_number a b h = grind (arith, nat_tests)
 
 pub same_test : (a b : ℕ) → a ≡ b → (a == b) ≡ true
 same_test a b h = grind (arith, nat_tests)

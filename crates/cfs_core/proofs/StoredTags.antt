@@ -18,10 +18,10 @@ use Rattle.cfs_core.specs.May.{doubt_meets, has_live_in, in_block, is_mapped, is
 use Rattle.cfs_core.specs.After.{with_tag}
 use Rattle.cfs_core.proofs.Apart.{any_none, live_only, not_true}
 use Rattle.cfs_core.proofs.Kept.{IsKept, IsLive, IsStored, at, byte_of, file_at, is_short}
-use Rattle.cfs_core.proofs.Legal.{both}
+use Rattle.cfs_core.proofs.Legal.{both, same_number}
 use Rattle.cfs_core.proofs.Moments.{or_right}
 use Rattle.cfs_core.proofs.Order.{in_range, same_or_not}
-use Rattle.cfs_core.proofs.StoredFrames.{in_tracks, no_clash, now_size, quiet_follows, quiet_same, same_number, same_test, stored-follows}
+use Rattle.cfs_core.proofs.StoredFrames.{in_tracks, no_clash, now_size, quiet_follows, quiet_same, same_test, stored-follows}
 use Rattle.cfs_core.proofs.StoredWrites.{meet_at}
 
 true_or_false : (b : Bool) → (b ≡ true) ⊎ (b ≡ false)
