@@ -1,3 +1,5 @@
+pub mod Crashing
+pub mod Freshness
 pub mod Headers
 pub mod Layouts
 pub mod Readings

@@ -1,4 +1,6 @@
 pub mod Checks
+pub mod Crash
+pub mod Fresh
 pub mod Image
 pub mod Layout
 pub mod Reading

@@ -2,12 +2,15 @@
 #![tactic(auto)]
 
 mod checks;
+mod crash;
+mod fresh;
 mod layout;
 mod medium;
 mod read;
 mod refusal;
 mod write;
 
+pub use fresh::new_image;
 pub use layout::{
     FEWEST_BLOCKS, FEWEST_QUEUES, FIRST_SLOT, MOST_BLOCKS, MOST_QUEUES, NAME, VERSION, block_at,
     image_len, region_at, region_count, region_words,

@@ -12,7 +12,7 @@ use cfs_pmem::MemRegion;
 use std::alloc::Global;
 
 /// Writes words behind the bytes that are there.
-fn push_words(image: &mut Vec<u8>, words: &[u64]) -> Result<(), NoMemory>
+pub(crate) fn push_words(image: &mut Vec<u8>, words: &[u64]) -> Result<(), NoMemory>
     ensures { OnOk result (image.new.items ≡ image.old.items ++ words_bytes words.now) }
 {
     let from = image.len();
