@@ -8,7 +8,7 @@ ghost use Rattle.cfs_io.specs.Streams.{SomeCame};
 ghost use Rattle.cfs_top.specs.Outside.{Ends, IsHeeded, Makes, PlayIsDue, Says, Writes};
 
 use crate::Status;
-use crate::command::{NewStore, image_to_play, store_to_make};
+use crate::command::{image_to_play, store_to_make};
 use crate::play::{PlayEnd, play_script};
 use crate::world::World;
 use cfs_file::{NoMemory, Word};
@@ -45,7 +45,7 @@ pub fn crossfs_steady<S: Source, K: Sink, H: Shelf>(
     ensures saves { result ≢ Status.Shelf → H.save_faults shelf.new ≡ H.save_faults shelf.old }
 {
     if let Some(store) = store_to_make(words) {
-        return mkfs(alloc, store, shelf);
+        return mkfs(alloc, store.image, store.blocks, store.queues, shelf);
     }
     match image_to_play(words) {
         Some(_) => play(alloc, input, output),
@@ -53,22 +53,22 @@ pub fn crossfs_steady<S: Source, K: Sink, H: Shelf>(
     }
 }
 
-/// Saves the image of a new store.
-fn mkfs<H: Shelf>(alloc: Global, store: NewStore<'_>, shelf: &mut H) -> Status
-    requires fewest_blocks { FEWEST_BLOCKS ≤ store.blocks }
-    requires most_blocks { store.blocks ≤ MOST_BLOCKS }
-    requires fewest_queues { FEWEST_QUEUES ≤ store.queues }
-    requires most_queues { store.queues ≤ MOST_QUEUES }
-    ensures made { Makes result store.image.now store.blocks store.queues (H.files shelf.old) (H.files shelf.new) }
+/// Saves the image of a new store of so many blocks and queues.
+fn mkfs<H: Shelf>(alloc: Global, image: &Word, blocks: u32, queues: u32, shelf: &mut H) -> Status
+    requires fewest_blocks { FEWEST_BLOCKS ≤ blocks }
+    requires most_blocks { blocks ≤ MOST_BLOCKS }
+    requires fewest_queues { FEWEST_QUEUES ≤ queues }
+    requires most_queues { queues ≤ MOST_QUEUES }
+    ensures made { Makes result image.now blocks queues (H.files shelf.old) (H.files shelf.new) }
     ensures shelf { result ≡ Status.Shelf → Rose (H.save_faults shelf.old) (H.save_faults shelf.new) }
     ensures loads { H.load_faults shelf.new ≡ H.load_faults shelf.old }
     ensures saves { result ≢ Status.Shelf → H.save_faults shelf.new ≡ H.save_faults shelf.old }
 {
-    let image = match new_image(alloc, store.blocks, store.queues) {
-        Ok(image) => image,
+    let bytes = match new_image(alloc, blocks, queues) {
+        Ok(bytes) => bytes,
         Err(NoMemory) => return Status::NoMemory,
     };
-    match shelf.save(store.image, image.as_slice()) {
+    match shelf.save(image, bytes.as_slice()) {
         Ok(()) => Status::Done,
         Err(IoFault) => Status::Shelf,
     }
@@ -78,6 +78,7 @@ fn mkfs<H: Shelf>(alloc: Global, store: NewStore<'_>, shelf: &mut H) -> Status
 fn play<S: Source, K: Sink>(alloc: Global, input: &mut S, output: &mut K) -> Status
     ensures writes { Writes (PlayIsDue (S.left input.old) (S.left input.new)) result (K.written output.old) (K.written output.new) }
     ensures came { SomeCame (S.left input.old) (S.left input.new) }
+    ensures shelf { result ≢ Status.Shelf }
     ensures input { result ≡ Status.Input → Rose (S.faults input.old) (S.faults input.new) }
     ensures output { result ≡ Status.Output → Rose (K.faults output.old) (K.faults output.new) }
     ensures source { IsHeeded result → S.faults input.new ≡ S.faults input.old }
