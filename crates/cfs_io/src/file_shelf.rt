@@ -119,7 +119,9 @@ fn refusal_of(error: io::Error) -> LoadRefusal {
 fn replace_file<R: Files>(files: &R, alloc: Global, name: &[u8], bytes: &[u8]) -> io::Result<()> {
     let path = str::from_utf8(name).or(Err(io::Error::from(ErrorKind::InvalidInput)))?;
     let (mut file, beside) = create_beside(files, alloc, path)?;
-    let moved = write_durably(&mut file, bytes).and_then(|()| files.rename(beside.as_str(), path));
+    let moved = keep_mode(files, path, &file)
+        .and_then(|()| write_durably(&mut file, bytes))
+        .and_then(|()| files.rename(beside.as_str(), path));
     if let Err(error) = moved {
         // The file beside is of no use. Where it can't be removed either, it stays.
         let _ = files.remove_file(beside.as_str());
@@ -139,6 +141,14 @@ fn create_beside<R: Files>(files: &R, alloc: Global, path: &str) -> io::Result<(
         }
     }
     Err(io::Error::from(ErrorKind::AlreadyExists))
+}
+
+/// Gives a new file the permissions of the file at a path, if there is one.
+fn keep_mode<R: Files>(files: &R, path: &str, file: &R::File) -> io::Result<()> {
+    match fs::metadata(files, path) {
+        Ok(old) => file.set_permissions(old.permissions()),
+        Err(_) => Ok(()),
+    }
 }
 
 /// Writes bytes to a file, and waits until they are durable.

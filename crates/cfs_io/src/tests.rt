@@ -272,6 +272,22 @@ fn a_failed_save_leaves_the_old_file(rt: HostRuntime) -> Result<(), Fail> {
 }
 
 #[test]
+fn a_save_keeps_the_permissions(rt: HostRuntime) -> Result<(), Fail> {
+    let alloc = rt.alloc();
+    let folder = new_folder(&rt)?;
+    let path = format!(in alloc; "{folder}/a")?;
+    fs::write(&rt, path.as_str(), "old")?;
+    let mut own = fs::metadata(&rt, path.as_str())?.permissions();
+    own.set_readonly(true);
+    fs::set_permissions(&rt, path.as_str(), own)?;
+    let mut shelf = FileShelf::new(&rt, alloc);
+    assert!(rt; answer(alloc, &mut shelf, path.as_str(), Some("new")).is_ok());
+    assert!(rt; fs::metadata(&rt, path.as_str())?.permissions().readonly());
+    fs::remove_dir_all(&rt, folder.as_str())?;
+    Ok(())
+}
+
+#[test]
 fn a_name_that_is_no_text_is_a_fault(rt: HostRuntime) -> Result<(), Fail> {
     let alloc = rt.alloc();
     let mut shelf = FileShelf::new(&rt, alloc);
