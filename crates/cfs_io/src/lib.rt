@@ -6,6 +6,7 @@
 #![tactic(auto)]
 
 mod call_plan;
+mod file_shelf;
 mod io_fault;
 mod load_refusal;
 mod mem_shelf;
@@ -19,6 +20,7 @@ mod source;
 mod std_sink;
 mod std_source;
 
+pub use file_shelf::{FileShelf, LARGEST_FILE};
 pub use io_fault::IoFault;
 pub use load_refusal::LoadRefusal;
 pub use mem_shelf::MemShelf;

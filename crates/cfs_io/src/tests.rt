@@ -1,13 +1,13 @@
 //! What no clause says: that the calls succeed, and that the definitions mean what they should.
 
 use crate::{
-    IoFault, LONGEST_SCRIPT, LoadRefusal, MemShelf, MemSink, MemSource, ReadRefusal, Shelf, Sink,
-    StdSink, StdSource, read_script, write_all,
+    FileShelf, IoFault, LONGEST_SCRIPT, LoadRefusal, MemShelf, MemSink, MemSource, ReadRefusal,
+    Shelf, Sink, StdSink, StdSource, read_script, write_all,
 };
 use cfs_file::{Bytes, Word};
 use std::alloc::Global;
-use std::io;
 use std::test::Fail;
+use std::{env, fs, io};
 
 /// A reader whose second read fails.
 #[derive(Drop)]
@@ -108,9 +108,9 @@ fn writes_a_piece_up_to_its_end_or_a_fault(rt: HostRuntime) -> Result<(), Fail> 
 
 /// What a shelf answers: to a save of some bytes no bytes, or that it failed; without bytes, to a
 /// load.
-fn answer(
+fn answer<H: Shelf>(
     alloc: Global,
-    shelf: &mut MemShelf,
+    shelf: &mut H,
     name: &str,
     bytes: Option<&str>,
 ) -> Result<Bytes, LoadRefusal> {
@@ -202,5 +202,99 @@ fn writes_through_a_writer_of_std(rt: HostRuntime) -> Result<(), Fail> {
     assert_eq!(rt; write_all(&mut sink, b"hello"), Err(IoFault));
     assert_eq!(rt; sink.faults(), 1);
     assert_eq!(rt; sink.write(b""), Ok(0));
+    Ok(())
+}
+
+/// Makes a folder that no other test has.
+fn new_folder(rt: &HostRuntime) -> io::Result<String> {
+    let alloc = rt.alloc();
+    let place = env::temp_dir(rt)?;
+    for number in 0..10_000 {
+        let folder = format!(in alloc; "{}/crossfs-test-{number}", place.as_str())?;
+        match fs::create_dir(rt, folder.as_str()) {
+            Err(error) if error.kind() == io::ErrorKind::AlreadyExists => {}
+            made => return made.map(|()| folder),
+        }
+    }
+    Err(io::Error::from(io::ErrorKind::AlreadyExists))
+}
+
+#[test]
+fn keeps_files_of_the_system_by_their_paths(rt: HostRuntime) -> Result<(), Fail> {
+    let alloc = rt.alloc();
+    let folder = new_folder(&rt)?;
+    let mut shelf = FileShelf::new(&rt, alloc);
+    let calls: [(&str, Option<&str>, Result<&str, LoadRefusal>); 11] = [
+        ("a", None, Err(LoadRefusal::Absent)),
+        ("a", Some("one"), Ok("")),
+        ("b", Some(""), Ok("")),
+        ("a", Some("three"), Ok("")),
+        ("a", None, Ok("three")),
+        ("b", None, Ok("")),
+        ("a/under", None, Err(LoadRefusal::Absent)),
+        // What is no file is not loaded, and a save does not take its place.
+        (".", None, Err(LoadRefusal::Failed)),
+        (".", Some("lost"), Err(LoadRefusal::Failed)),
+        ("none/c", Some("lost"), Err(LoadRefusal::Failed)),
+        ("a", None, Ok("three")),
+    ];
+    for (name, bytes, want) in calls {
+        let path = format!(in alloc; "{folder}/{name}")?;
+        let answer = answer(alloc, &mut shelf, path.as_str(), bytes);
+        assert!(rt; is_answer(&answer, want), "at {name}");
+    }
+    assert_eq!(rt; shelf.load_faults(), 1);
+    assert_eq!(rt; shelf.save_faults(), 2);
+    fs::remove_dir_all(&rt, folder.as_str())?;
+    Ok(())
+}
+
+#[test]
+fn a_failed_save_leaves_the_old_file(rt: HostRuntime) -> Result<(), Fail> {
+    let alloc = rt.alloc();
+    let folder = new_folder(&rt)?;
+    let path = format!(in alloc; "{folder}/a")?;
+    let mut shelf = FileShelf::new(&rt, alloc);
+    assert!(rt; answer(alloc, &mut shelf, path.as_str(), Some("old")).is_ok());
+
+    // Each name that a new file could have is taken.
+    for number in 0..100 {
+        let taken = format!(in alloc; "{path}.{number}.new")?;
+        fs::write(&rt, taken.as_str(), "taken")?;
+    }
+    let answer_now = answer(alloc, &mut shelf, path.as_str(), Some("new"));
+    assert!(rt; is_answer(&answer_now, Err(LoadRefusal::Failed)));
+    let loaded = answer(alloc, &mut shelf, path.as_str(), None);
+    assert!(rt; is_answer(&loaded, Ok("old")));
+    assert_eq!(rt; shelf.save_faults(), 1);
+    fs::remove_dir_all(&rt, folder.as_str())?;
+    Ok(())
+}
+
+#[test]
+fn a_save_keeps_the_permissions(rt: HostRuntime) -> Result<(), Fail> {
+    let alloc = rt.alloc();
+    let folder = new_folder(&rt)?;
+    let path = format!(in alloc; "{folder}/a")?;
+    fs::write(&rt, path.as_str(), "old")?;
+    let mut own = fs::metadata(&rt, path.as_str())?.permissions();
+    own.set_readonly(true);
+    fs::set_permissions(&rt, path.as_str(), own)?;
+    let mut shelf = FileShelf::new(&rt, alloc);
+    assert!(rt; answer(alloc, &mut shelf, path.as_str(), Some("new")).is_ok());
+    assert!(rt; fs::metadata(&rt, path.as_str())?.permissions().readonly());
+    fs::remove_dir_all(&rt, folder.as_str())?;
+    Ok(())
+}
+
+#[test]
+fn a_name_that_is_no_text_is_a_fault(rt: HostRuntime) -> Result<(), Fail> {
+    let alloc = rt.alloc();
+    let mut shelf = FileShelf::new(&rt, alloc);
+    let name = Word::from_slice(alloc, &[b'a', 255])?;
+    assert_eq!(rt; shelf.load(&name).err(), Some(LoadRefusal::Failed));
+    assert_eq!(rt; shelf.save(&name, b"lost"), Err(IoFault));
+    assert_eq!(rt; shelf.load_faults(), 1);
+    assert_eq!(rt; shelf.save_faults(), 1);
     Ok(())
 }

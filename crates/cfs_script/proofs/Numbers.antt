@@ -1,6 +1,6 @@
 -- What a word spells is read from it, and nothing else is: numbers and the bytes of transfers.
-use Rattle.std.proofs.Common.{◌≡◌, ℕ, ◌+◌, ◌*◌, ◌-◌, ◌<◌, ◌≤◌, ◌^◌, Bool, true, false, ◌&&◌, ◌||◌, List, [], ◌∷◌, ◌++◌, length, take, drop, get_or, Some, arith, refl, rules, sym, subst, ap, ◌∙◌, leb, inl, inr}
-use Rattle.std.specs.Prelude.{codes, All, nat_le, nat_lt, ◌==◌, not}
+use Rattle.std.proofs.Common.{◌≡◌, ℕ, ◌+◌, ◌*◌, ◌-◌, ◌<◌, ◌≤◌, ◌^◌, Bool, true, false, ◌&&◌, ◌||◌, List, [], ◌∷◌, ◌++◌, length, take, drop, get_or, Option, Some, None, arith, refl, rules, sym, subst, ap, ◌∙◌, leb, inl, inr}
+use Rattle.std.specs.Prelude.{codes, All, IfSome, IfNone, nat_le, nat_lt, ◌==◌, not}
 use Rattle.std.specs.Bool.{Decides}
 use Rattle.std.specs.List.{list_all}
 use Rattle.std.specs.Char.{is_ascii_digit}
@@ -123,3 +123,21 @@ payload_of-again word bytes h =
     let some : leb 1 (length bytes) ≡ true = le-leb _ _ h.2 in
     let few : leb (length bytes) most_bytes ≡ true = le-leb _ _ h.3 in
     rw (h.0, all, some, few) refl
+
+-- what is read is what the word spells
+pub number_of-found : (least most : ℕ) (word : List ℕ) (o : Option ℕ) → o ≡ number_of least most word →
+    IfSome o (λ n. (word ≡ decimal n) × (least ≤ n) × (n ≤ most))
+number_of-found least most word None e = tt
+number_of-found least most word (Some n) e =
+    let h = number_of-takes least most word n (sym e) in
+    (h.0, h.1, h.2)
+
+-- and where nothing is read, the word spells no such number
+pub number_of-none : (least most : ℕ) (word : List ℕ) (o : Option ℕ) → o ≡ number_of least most word →
+    IfNone o ((n : ℕ) → word ≡ decimal n → least ≤ n → n ≤ most → n ≤ largest_number → ⊥)
+number_of-none least most word None e =
+    λ n is low high small. let again = number_of-again least most word n (is, low, high, small) in none_some n (e ∙ again)
+  where
+    none_some : (n : ℕ) → None ≡ Some n → ⊥
+    none_some n same = cc
+number_of-none least most word (Some n) e = tt

@@ -21,6 +21,7 @@ mod words;
 
 pub use form::{CALLERS, Form, LARGEST_NUMBER, LAST_OFFSET, MOST_BYTES};
 pub use line::Line;
+pub use number::number_in;
 pub use play::read_play;
 pub use script::{MOST_LINES, Script};
 pub use script_refusal::ScriptRefusal;

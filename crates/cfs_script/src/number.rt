@@ -1,16 +1,28 @@
-//! Numbers of a script.
+//! Numbers of a script and of a command line.
 
-ghost use Rattle.std.specs.Prelude.{◌≡◌, ◌≤◌, if◌then◌else◌, nat_le, Some, None, true};
+ghost use Rattle.std.specs.Prelude.{◌≡◌, ◌≤◌, ℕ, if◌then◌else◌, nat_le, Some, None, true, IfSome, IfNone};
 ghost use Rattle.std.specs.List.{list_all};
 ghost use Rattle.std.specs.Char.{is_ascii_digit};
+ghost use Rattle.std.specs.Fmt.{decimal};
 ghost use Rattle.std.specs.Str.Parse.{digits_value};
 ghost use Rattle.cfs_script.specs.Reading.{is_canonical, number_of};
 
 use crate::form::LARGEST_NUMBER;
 
-/// The number that the word spells, if it is within the bounds.
+/// The number that the word spells in decimal, without a leading zero, if it is within the bounds.
+/// There is none above [`LARGEST_NUMBER`]. Takes no memory.
 #[tactic(auto, unfolding(crate::specs::Reading::number_of))]
-pub(crate) fn number_in(word: &[u8], least: u64, most: u64) -> Option<u64>
+pub fn number_in(word: &[u8], least: u64, most: u64) -> Option<u64>
+    ensures exact { result ≡ number_of least most word.now }
+    ensures found { IfSome result (λ n. (word.now ≡ decimal n) × (least ≤ n) × (n ≤ most)) }
+    ensures none { IfNone result ((n : ℕ) → word.now ≡ decimal n → least ≤ n → n ≤ most →
+        n ≤ LARGEST_NUMBER → ⊥) }
+{
+    read_number(word, least, most)
+}
+
+#[tactic(auto, unfolding(crate::specs::Reading::number_of))]
+fn read_number(word: &[u8], least: u64, most: u64) -> Option<u64>
     ensures { result ≡ number_of least most word.now }
 {
     if !test_canonical(word) {

@@ -1,14 +1,17 @@
 -- How calls of the program end.
 use Rattle.std.proofs.Common.{◌≡◌, inl, inr, ℕ, Some, None, List, [], refl, sym, subst}
 use Rattle.std.specs.declared.option.Option.{Option}
-use Rattle.std.specs.Io.KnownBytes.{Consumes, IsAtEnd}
+use Rattle.std.specs.Io.KnownBytes.{Appends, Consumes, IsAtEnd}
+use Rattle.std.proofs.lemmas.List.{append-nil}
 use Rattle.cfs_file.specs.declared.entry.Entry.{Entry}
+use Rattle.cfs_io.specs.Files.{Files}
 use Rattle.cfs_script.specs.declared.line.Line.{Line}
 use Rattle.cfs_script.specs.Script.{IsScript}
 use Rattle.cfs_top.specs.declared.out_line.OutLine.{OutLine}
 use Rattle.cfs_top.specs.declared.status.Status.{Status}
-use Rattle.cfs_top.specs.declared.status.Status.TheVariants.{Done, Usage, Script, Input, Output, NoMemory}
-use Rattle.cfs_top.specs.Outside.{ArePlay, IsDue, IsHeeded, PlayIsDue, Says, Writes, WritesAll, WritesFront}
+use Rattle.cfs_top.specs.declared.status.Status.TheVariants.{Done, Usage, Script, Input, Output, Shelf, NoMemory}
+use Rattle.cfs_top.specs.Command.{IsMkfs}
+use Rattle.cfs_top.specs.Outside.{AreMkfs, ArePlay, Ends, IsDue, IsHeeded, Keeps, Makes, PlayIsDue, Says, Writes, WritesAll, WritesFront}
 use Rattle.cfs_top.specs.Play.{PlaysAll, PlaysFront, Run}
 use Rattle.cfs_top.specs.Text.{texts}
 use Rattle.cfs_top.proofs.Orders.{KeepsOrder-run}
@@ -21,6 +24,7 @@ writes_all due Usage before after heeded all = all
 writes_all due Script before after heeded all = all
 writes_all due Input before after heeded all = absurd heeded
 writes_all due Output before after heeded all = absurd heeded
+writes_all due Shelf before after heeded all = absurd heeded
 writes_all due NoMemory before after heeded all = absurd heeded
 
 -- a text that is due was written, or a front of it
@@ -95,6 +99,7 @@ play_writes words left rest Usage before after are w = all_weaker words left res
 play_writes words left rest Script before after are w = all_weaker words left rest Script before after are w
 play_writes words left rest Input before after are w = w
 play_writes words left rest Output before after are w = front_weaker words left rest before after are w
+play_writes words left rest Shelf before after are w = w
 play_writes words left rest NoMemory before after are (inl same) = inl same
 play_writes words left rest NoMemory before after are (inr front) = inr (front_weaker words left rest before after are front)
 
@@ -109,3 +114,54 @@ output_input same = cc
 pub Consumes-none : (left : Option (List ℕ)) → Consumes left left []
 Consumes-none None = tt
 Consumes-none (Some bytes) = refl
+
+-- nothing was written
+pub Appends-none : (written : Option (List ℕ)) → Appends written written []
+Appends-none None = tt
+Appends-none (Some bytes) = sym (append-nil bytes)
+
+-- a call that made a store and wrote nothing ended so
+pub mkfs_ends : (status : Status) (words : List (List ℕ)) (image : List ℕ) (blocks queues : ℕ) (left written : Option (List ℕ)) (old new : Option Files) →
+    IsMkfs words image blocks queues → Makes status image blocks queues old new →
+    Ends status words (record { left = left; written = written; files = old }) (record { left = left; written = written; files = new })
+mkfs_ends Done words image blocks queues left written old new is made = record {
+  writes = record { text = []; is_due = inr (inl ((image, (blocks, (queues, is))), refl, refl)); written = Appends-none written };
+  asked = λ input. cc;
+  came = ([], Consumes-none left);
+  unread = λ none. refl;
+  files = inl (record { image = image; blocks = blocks; queues = queues; is_mkfs = is; saved = made });
+}
+mkfs_ends Usage words image blocks queues left written old new is made = absurd made
+mkfs_ends Script words image blocks queues left written old new is made = absurd made
+mkfs_ends Input words image blocks queues left written old new is made = absurd made
+mkfs_ends Output words image blocks queues left written old new is made = absurd made
+mkfs_ends Shelf words image blocks queues left written old new is made = record {
+  writes = refl;
+  asked = λ input. cc;
+  came = ([], Consumes-none left);
+  unread = λ none. refl;
+  files = record { image = image; blocks = blocks; queues = queues; is_mkfs = is; others = made };
+}
+mkfs_ends NoMemory words image blocks queues left written old new is made = record {
+  writes = inl refl;
+  asked = λ input. cc;
+  came = ([], Consumes-none left);
+  unread = λ none. refl;
+  files = made;
+}
+
+-- the files of the shelf stay as they were, with words that are not `mkfs`
+pub kept_files : (status : Status) (words : List (List ℕ)) (files : Option Files) → (AreMkfs words → ⊥) → (status ≡ Shelf → ⊥) → Keeps status words files files
+kept_files Done words files none other = inr (none, refl)
+kept_files Usage words files none other = refl
+kept_files Script words files none other = refl
+kept_files Input words files none other = refl
+kept_files Output words files none other = refl
+kept_files Shelf words files none other = absurd (other refl)
+kept_files NoMemory words files none other = refl
+
+pub usage_shelf : Usage ≡ Shelf → ⊥
+usage_shelf same = cc
+
+pub output_shelf : Output ≡ Shelf → ⊥
+output_shelf same = cc

@@ -1,8 +1,10 @@
 -- Words of a command line.
-use Rattle.std.proofs.Common.{◌≡◌, ℕ, List, [], ◌∷◌, length, get_or, arith, true}
+use Rattle.std.proofs.Common.{◌≡◌, ℕ, ◌≤◌, List, [], ◌∷◌, length, get_or, arith, true}
 use Rattle.std.proofs.lemmas.Slice.Eq.{bytes_eq-Decides}
 use Rattle.std.specs.Prelude.{codes}
-use Rattle.cfs_top.specs.Command.{IsPlay, is_play, is_image_name}
+use Rattle.std.specs.Fmt.{decimal}
+use Rattle.cfs_image.specs.declared.layout.TheConstants.{FEWEST_BLOCKS, FEWEST_QUEUES, MOST_BLOCKS, MOST_QUEUES}
+use Rattle.cfs_top.specs.Command.{IsMkfs, IsPlay, is_mkfs, is_play, is_image_name}
 
 -- three words, of which two are known
 pub IsPlay-three : (words : List (List ℕ)) (command image : List ℕ) → length words ≡ 3 →
@@ -19,3 +21,29 @@ IsPlay-three (a ∷ b ∷ c ∷ []) command image long second third is name =
       name = name;
     }
 IsPlay-three (a ∷ b ∷ c ∷ d ∷ rest) command image long second third is name = absurd (omega arith)
+
+-- five words, of which four are known
+pub IsMkfs-five : (words : List (List ℕ)) (command image first second : List ℕ) (blocks queues : ℕ) → length words ≡ 5 →
+    command ≡ get_or words 1 command → image ≡ get_or words 2 image → first ≡ get_or words 3 first → second ≡ get_or words 4 second →
+    is_mkfs command ≡ true → is_image_name image ≡ true →
+    ((first ≡ decimal blocks) × (FEWEST_BLOCKS ≤ blocks) × (blocks ≤ MOST_BLOCKS)) →
+    ((second ≡ decimal queues) × (FEWEST_QUEUES ≤ queues) × (queues ≤ MOST_QUEUES)) → IsMkfs words image blocks queues
+IsMkfs-five [] command image first second blocks queues long c i f s is name b q = cc
+IsMkfs-five (v ∷ []) command image first second blocks queues long c i f s is name b q = absurd (omega arith)
+IsMkfs-five (v ∷ w ∷ []) command image first second blocks queues long c i f s is name b q = absurd (omega arith)
+IsMkfs-five (v ∷ w ∷ x ∷ []) command image first second blocks queues long c i f s is name b q = absurd (omega arith)
+IsMkfs-five (v ∷ w ∷ x ∷ y ∷ []) command image first second blocks queues long c i f s is name b q = absurd (omega arith)
+IsMkfs-five (v ∷ w ∷ x ∷ y ∷ z ∷ []) command image first second blocks queues long c i f s is name b q =
+    let named : command ≡ codes "mkfs" = (bytes_eq-Decides command (codes "mkfs")).0 is in
+    let first_is : first ≡ decimal blocks = b.0 in
+    let second_is : second ≡ decimal queues = q.0 in
+    record {
+      program = v;
+      are = cc;
+      name = name;
+      fewest_blocks = b.1;
+      most_blocks = b.2;
+      fewest_queues = q.1;
+      most_queues = q.2;
+    }
+IsMkfs-five (v ∷ w ∷ x ∷ y ∷ z ∷ u ∷ rest) command image first second blocks queues long c i f s is name b q = absurd (omega arith)

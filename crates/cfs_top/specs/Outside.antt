@@ -4,14 +4,15 @@ use Rattle.std.specs.declared.option.Option.{Option}
 use Rattle.std.specs.Io.KnownBytes.{Appends, Consumes, IsAtEnd}
 use Rattle.cfs_file.specs.declared.entry.Entry.{Entry}
 use Rattle.cfs_io.specs.declared.script.TheConstants.{LONGEST_SCRIPT}
-use Rattle.cfs_io.specs.Files.{Files}
+use Rattle.cfs_image.specs.Fresh.{new_image_of}
+use Rattle.cfs_io.specs.Files.{Files, OthersKept, Saved}
 use Rattle.cfs_io.specs.Streams.{AppendsFront, MoreCame, SomeCame}
 use Rattle.cfs_script.specs.declared.line.Line.{Line}
 use Rattle.cfs_script.specs.Script.{IsScript, IsNoScript}
 use Rattle.cfs_top.specs.declared.out_line.OutLine.{OutLine}
 use Rattle.cfs_top.specs.declared.status.Status.{Status}
-use Rattle.cfs_top.specs.declared.status.Status.TheVariants.{Done, Usage, Script, Input, Output, NoMemory}
-use Rattle.cfs_top.specs.Command.{IsPlay}
+use Rattle.cfs_top.specs.declared.status.Status.TheVariants.{Done, Usage, Script, Input, Output, Shelf, NoMemory}
+use Rattle.cfs_top.specs.Command.{IsMkfs, IsPlay}
 use Rattle.cfs_top.specs.Order.{KeepsOrder}
 use Rattle.cfs_top.specs.Play.{Run}
 use Rattle.cfs_top.specs.Text.{refused_text, texts, usage_text}
@@ -55,17 +56,27 @@ PlayIsDue left rest Usage text = ⊥
 PlayIsDue left rest Script text = IsRefused left rest × (text ≡ refused_text)
 PlayIsDue left rest Input text = ⊥
 PlayIsDue left rest Output text = ⊥
+PlayIsDue left rest Shelf text = ⊥
 PlayIsDue left rest NoMemory text = ⊥
 
 -- the words are `play` of some image
 abbrev pub ArePlay : List (List ℕ) → Type 0
 ArePlay words = (image : List ℕ) × IsPlay words image
 
--- the status that the call is to end with, and the text that it is to write
+-- the words are `mkfs` of some image
+abbrev pub AreMkfs : List (List ℕ) → Type 0
+AreMkfs words = (image : List ℕ) × ((blocks : ℕ) × ((queues : ℕ) × IsMkfs words image blocks queues))
+
+-- the words are no command
+abbrev pub AreNone : List (List ℕ) → Type 0
+AreNone words = (ArePlay words → ⊥) × (AreMkfs words → ⊥)
+
+-- The status that the call is to end with, and the text that it is to write: `mkfs` writes none.
 abbrev pub IsDue : List (List ℕ) → Option (List ℕ) → Option (List ℕ) → Status → List ℕ → Type 0
 IsDue words left rest status text =
     (ArePlay words × PlayIsDue left rest status text)
-    ⊎ ((ArePlay words → ⊥) × (status ≡ Usage) × (rest ≡ left) × (text ≡ usage_text))
+    ⊎ ((AreMkfs words × (status ≡ Done) × (text ≡ []))
+    ⊎ (AreNone words × (status ≡ Usage) × (text ≡ usage_text)))
 
 -- some front of a text that is due was written
 pub record WritesFront (due : Status → List ℕ → Type 0) (before after : Option (List ℕ)) : Type 0 where
@@ -87,15 +98,53 @@ Writes due Usage before after = WritesAll due Usage before after
 Writes due Script before after = WritesAll due Script before after
 Writes due Input before after = after ≡ before
 Writes due Output before after = WritesFront due before after
+Writes due Shelf before after = after ≡ before
 Writes due NoMemory before after = (after ≡ before) ⊎ WritesFront due before after
 
--- A call with these words ended so: what it wrote is what is due, the shelf is as before, and a source
--- that failed was asked since the words are `play`.
+-- the new image of `mkfs` stands under its name, and nothing else changed
+pub record SavesNew (words : List (List ℕ)) (old new : Option Files) : Type 0 where
+  pub image : List ℕ
+  pub blocks : ℕ
+  pub queues : ℕ
+  pub is_mkfs : IsMkfs words image blocks queues
+  pub saved : Saved old new image (new_image_of blocks queues)
+
+-- the save of `mkfs` failed, and each file of another name is as it was
+pub record FailsToSave (words : List (List ℕ)) (old new : Option Files) : Type 0 where
+  pub image : List ℕ
+  pub blocks : ℕ
+  pub queues : ℕ
+  pub is_mkfs : IsMkfs words image blocks queues
+  pub others : OthersKept old new image
+
+-- what became of the files of the shelf
+abbrev pub Keeps : Status → List (List ℕ) → Option Files → Option Files → Type 0
+Keeps Done words old new = SavesNew words old new ⊎ ((AreMkfs words → ⊥) × (new ≡ old))
+Keeps Usage words old new = new ≡ old
+Keeps Script words old new = new ≡ old
+Keeps Input words old new = new ≡ old
+Keeps Output words old new = new ≡ old
+Keeps Shelf words old new = FailsToSave words old new
+Keeps NoMemory words old new = new ≡ old
+
+-- A call with these words ended so: what it wrote is what is due, and the shelf is as the status says. Only
+-- `play` reads the source.
 pub record Ends (status : Status) (words : List (List ℕ)) (before after : Outside) : Type 0 where
   pub writes : Writes (IsDue words before.left after.left) status before.written after.written
   pub asked : status ≡ Input → ArePlay words
   pub came : SomeCame before.left after.left
-  pub files : after.files ≡ before.files
+  pub unread : (ArePlay words → ⊥) → after.left ≡ before.left
+  pub files : Keeps status words before.files after.files
+
+-- what became of the files of the shelf by `mkfs`
+abbrev pub Makes : Status → List ℕ → ℕ → ℕ → Option Files → Option Files → Type 0
+Makes Done image blocks queues old new = Saved old new image (new_image_of blocks queues)
+Makes Usage image blocks queues old new = ⊥
+Makes Script image blocks queues old new = ⊥
+Makes Input image blocks queues old new = ⊥
+Makes Output image blocks queues old new = ⊥
+Makes Shelf image blocks queues old new = OthersKept old new image
+Makes NoMemory image blocks queues old new = new ≡ old
 
 -- the call ended with the status that was due
 abbrev pub IsHeeded : Status → Type 0
@@ -104,6 +153,7 @@ IsHeeded Usage = Unit {0}
 IsHeeded Script = Unit {0}
 IsHeeded Input = ⊥
 IsHeeded Output = ⊥
+IsHeeded Shelf = ⊥
 IsHeeded NoMemory = ⊥
 
 -- the text was written, which ends with this status, or a front of it, which ends with a fault

@@ -1,7 +1,7 @@
 -- The number of each status.
 use Rattle.std.specs.Prelude.{ℕ}
 use Rattle.cfs_top.specs.declared.status.Status.{Status}
-use Rattle.cfs_top.specs.declared.status.Status.TheVariants.{Done, Usage, Script, Input, Output, NoMemory}
+use Rattle.cfs_top.specs.declared.status.Status.TheVariants.{Done, Usage, Script, Input, Output, Shelf, NoMemory}
 
 abbrev pub number_of : Status → ℕ
 number_of Done = 0
@@ -9,4 +9,5 @@ number_of Usage = 1
 number_of Script = 2
 number_of Input = 4
 number_of Output = 5
+number_of Shelf = 6
 number_of NoMemory = 7

@@ -1,10 +1,60 @@
 //! The words of the command line.
 
-ghost use Rattle.std.specs.Prelude.{◌≡◌, ◌&&◌, List, ℕ, nat_le, length, IfSome, IfNone};
+ghost use Rattle.std.specs.Prelude.{◌≡◌, ◌==◌, ◌≤◌, ◌&&◌, List, ℕ, get_or, nat_le, length, IfSome, IfNone};
+ghost use Rattle.std.specs.Fmt.{decimal};
 ghost use Rattle.std.specs.List.{list_all};
-ghost use Rattle.cfs_top.specs.Command.{IsPlay, is_image_byte, is_image_name};
+ghost use Rattle.cfs_top.specs.Command.{IsMkfs, IsPlay, is_image_byte, is_image_name};
 
 use cfs_file::Word;
+use cfs_image::{FEWEST_BLOCKS, FEWEST_QUEUES, MOST_BLOCKS, MOST_QUEUES};
+use cfs_script::number_in;
+
+/// A store that is to be made.
+#[derive(Clone, Copy)]
+pub(crate) struct NewStore<'a> {
+    /// The name of its image.
+    pub(crate) image: &'a Word,
+    /// How many blocks it has.
+    pub(crate) blocks: u32,
+    /// How many queues it has.
+    pub(crate) queues: u32,
+}
+
+/// The store of `mkfs IMAGE BLOCKS QUEUES`, if the words are that command. The first word is the
+/// program's name.
+pub(crate) fn store_to_make(words: &[Word]) -> Option<NewStore<'_>>
+    ensures found { IfSome result (λ store. IsMkfs words.now store.image.now store.blocks store.queues) }
+    ensures none { IfNone result ((image : List ℕ) (blocks queues : ℕ) → IsMkfs words.now image blocks queues → ⊥) }
+{
+    let [_, command, image, blocks, queues] = words else {
+        return None;
+    };
+    if !is_mkfs(command) || !is_image(image) {
+        return None;
+    }
+    let blocks = number_of(blocks, FEWEST_BLOCKS, MOST_BLOCKS)?;
+    let queues = number_of(queues, FEWEST_QUEUES, MOST_QUEUES)?;
+    Some(NewStore {
+        image,
+        blocks,
+        queues,
+    })
+}
+
+/// The number that a word spells in decimal, if it is within the bounds.
+fn number_of(word: &Word, least: u32, most: u32) -> Option<u32>
+    ensures found { IfSome result (λ n. (word.now ≡ decimal n) × (least ≤ n) × (n ≤ most)) }
+    ensures none { IfNone result ((n : ℕ) → word.now ≡ decimal n → least ≤ n → n ≤ most → ⊥) }
+{
+    let number = number_in(word.as_slice(), u64::from(least), u64::from(most))?;
+    Some(number as u32)
+}
+
+fn is_mkfs(word: &Word) -> bool
+    ensures { result ≡ Rattle.cfs_top.specs.Command.is_mkfs word.now }
+{
+    word.as_slice() == b"mkfs".as_slice()
+}
 
 /// The image of `play IMAGE`, if the words are that command. The first word is the program's name.
 pub(crate) fn image_to_play(words: &[Word]) -> Option<&Word>
@@ -27,7 +77,13 @@ fn is_image(word: &Word) -> bool
     ensures { result ≡ is_image_name word.now }
 {
     let name = word.as_slice();
-    1 <= name.len() && name.len() <= 200 && are_image_bytes(name)
+    1 <= name.len() && name.len() <= 200 && are_image_bytes(name) && !is_option(name)
+}
+
+fn is_option(name: &[u8]) -> bool
+    ensures { result ≡ (get_or name.now 0 0 == 45) }
+{
+    matches!(name, [b'-', ..])
 }
 
 fn are_image_bytes(name: &[u8]) -> bool

@@ -16,6 +16,8 @@ pub enum Status {
     Input,
     /// The sink had a fault.
     Output,
+    /// The shelf had a fault.
+    Shelf,
     /// Want of memory.
     NoMemory,
 }
@@ -31,6 +33,7 @@ impl Status {
             Status::Script => 2,
             Status::Input => 4,
             Status::Output => 5,
+            Status::Shelf => 6,
             Status::NoMemory => 7,
         }
     }

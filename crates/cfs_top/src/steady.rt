@@ -1,23 +1,28 @@
 //! The top call without threads.
 
-ghost use Rattle.std.specs.Prelude.{◌≡◌, ◌≤◌, List, ℕ};
+ghost use Rattle.std.specs.Prelude.{◌≡◌, ◌≢◌, ◌≤◌, List, ℕ};
 ghost use Rattle.std.specs.declared.option.Option.{Option};
+ghost use Rattle.cfs_image.specs.declared.layout.TheConstants.{FEWEST_BLOCKS, FEWEST_QUEUES, MOST_BLOCKS, MOST_QUEUES};
 ghost use Rattle.cfs_io.specs.Causes.{Rose};
 ghost use Rattle.cfs_io.specs.Streams.{SomeCame};
-ghost use Rattle.cfs_top.specs.Outside.{Ends, IsHeeded, PlayIsDue, Says, Writes};
+ghost use Rattle.cfs_top.specs.Outside.{Ends, IsHeeded, Makes, PlayIsDue, Says, Writes};
 
 use crate::Status;
-use crate::command::image_to_play;
+use crate::command::{image_to_play, store_to_make};
 use crate::play::{PlayEnd, play_script};
 use crate::world::World;
-use cfs_file::Word;
+use cfs_file::{NoMemory, Word};
+use cfs_image::new_image;
 use cfs_io::{IoFault, ReadRefusal, Shelf, Sink, Source, read_script, write_all};
 use cfs_script::{ScriptRefusal, read_play};
 use std::alloc::Global;
 
-/// Does what the words ask for: `play IMAGE`, after the program's name. It reads a script from
-/// `input` and writes what the script's lines answer to `output`. It always returns.
+/// Does what the words ask for, after the program's name. It always returns.
 ///
+/// `mkfs IMAGE BLOCKS QUEUES` saves the image of a new store of 16 to 16,384 blocks and 1 to 64
+/// queues, in place of an image of that name. It reads and writes nothing else.
+///
+/// `play IMAGE` reads a script from `input` and writes what the script's lines answer to `output`.
 /// The image is neither loaded nor saved yet: each script begins with an empty file system.
 pub fn crossfs_steady<S: Source, K: Sink, H: Shelf>(
     alloc: Global,
@@ -35,12 +40,37 @@ pub fn crossfs_steady<S: Source, K: Sink, H: Shelf>(
     ensures output { result ≡ Status.Output → Rose (K.faults output.old) (K.faults output.new) }
     ensures source { IsHeeded result → S.faults input.new ≡ S.faults input.old }
     ensures sink { IsHeeded result → K.faults output.new ≡ K.faults output.old }
+    ensures shelf { result ≡ Status.Shelf → Rose (H.save_faults shelf.old) (H.save_faults shelf.new) }
     ensures loads { H.load_faults shelf.new ≡ H.load_faults shelf.old }
-    ensures saves { H.save_faults shelf.new ≡ H.save_faults shelf.old }
+    ensures saves { result ≢ Status.Shelf → H.save_faults shelf.new ≡ H.save_faults shelf.old }
 {
+    if let Some(store) = store_to_make(words) {
+        return mkfs(alloc, store.image, store.blocks, store.queues, shelf);
+    }
     match image_to_play(words) {
         Some(_) => play(alloc, input, output),
         None => say(output, b"usage\n", Status::Usage),
+    }
+}
+
+/// Saves the image of a new store of so many blocks and queues.
+fn mkfs<H: Shelf>(alloc: Global, image: &Word, blocks: u32, queues: u32, shelf: &mut H) -> Status
+    requires fewest_blocks { FEWEST_BLOCKS ≤ blocks }
+    requires most_blocks { blocks ≤ MOST_BLOCKS }
+    requires fewest_queues { FEWEST_QUEUES ≤ queues }
+    requires most_queues { queues ≤ MOST_QUEUES }
+    ensures made { Makes result image.now blocks queues (H.files shelf.old) (H.files shelf.new) }
+    ensures shelf { result ≡ Status.Shelf → Rose (H.save_faults shelf.old) (H.save_faults shelf.new) }
+    ensures loads { H.load_faults shelf.new ≡ H.load_faults shelf.old }
+    ensures saves { result ≢ Status.Shelf → H.save_faults shelf.new ≡ H.save_faults shelf.old }
+{
+    let bytes = match new_image(alloc, blocks, queues) {
+        Ok(bytes) => bytes,
+        Err(NoMemory) => return Status::NoMemory,
+    };
+    match shelf.save(image, bytes.as_slice()) {
+        Ok(()) => Status::Done,
+        Err(IoFault) => Status::Shelf,
     }
 }
 
@@ -48,6 +78,7 @@ pub fn crossfs_steady<S: Source, K: Sink, H: Shelf>(
 fn play<S: Source, K: Sink>(alloc: Global, input: &mut S, output: &mut K) -> Status
     ensures writes { Writes (PlayIsDue (S.left input.old) (S.left input.new)) result (K.written output.old) (K.written output.new) }
     ensures came { SomeCame (S.left input.old) (S.left input.new) }
+    ensures shelf { result ≢ Status.Shelf }
     ensures input { result ≡ Status.Input → Rose (S.faults input.old) (S.faults input.new) }
     ensures output { result ≡ Status.Output → Rose (K.faults output.old) (K.faults output.new) }
     ensures source { IsHeeded result → S.faults input.new ≡ S.faults input.old }

@@ -1,6 +1,7 @@
 use crate::{Status, crossfs_steady};
-use cfs_file::{NoMemory, Word};
-use cfs_io::{MemShelf, MemSink, MemSource};
+use cfs_file::{Bytes, NoMemory, Word};
+use cfs_image::new_image;
+use cfs_io::{MemShelf, MemSink, MemSource, Shelf};
 use std::alloc::Global;
 use std::test::Fail;
 
@@ -94,7 +95,8 @@ fn other_words_are_usage(rt: HostRuntime) -> Result<(), Fail> {
     let longest = format!(in rt.alloc(); "{half}{half}")?;
     let longer = format!(in rt.alloc(); "{half}{half}.")?;
     for (command, image, status) in [
-        ("play", "-a/B_9.", Status::Done),
+        ("play", "a-/B_9.", Status::Done),
+        ("play", "-a", Status::Usage),
         ("play", longest.as_str(), Status::Done),
         ("play", longer.as_str(), Status::Usage),
         ("play", "", Status::Usage),
@@ -151,8 +153,100 @@ fn each_status_has_its_number(rt: HostRuntime) {
         (Status::Script, 2),
         (Status::Input, 4),
         (Status::Output, 5),
+        (Status::Shelf, 6),
         (Status::NoMemory, 7),
     ] {
         assert_eq!(rt; status.number(), number);
     }
+}
+
+/// A shelf with the files `d` and `e`, whose call of that number fails.
+fn shelf_of_two(alloc: Global, failing: Option<u64>) -> Result<MemShelf, NoMemory> {
+    let mut files = Vec::new(alloc);
+    for name in ["d", "e"] {
+        let word = Word::from_slice(alloc, name.as_bytes())?;
+        files.push((word, Bytes::from_slice(alloc, b"old")?))?;
+    }
+    Ok(MemShelf::with_files(alloc, files, numbers(alloc, failing)?))
+}
+
+/// Calls `mkfs` over a source whose first read fails and a sink whose first write fails.
+fn make_store(
+    alloc: Global,
+    shelf: &mut MemShelf,
+    image: &str,
+    blocks: &str,
+    queues: &str,
+) -> Result<Status, NoMemory> {
+    let words = words_of(alloc, &["crossfs", "mkfs", image, blocks, queues])?;
+    let mut input = MemSource::new(Vec::new(alloc), numbers(alloc, Some(1))?);
+    let mut output = MemSink::new(alloc, numbers(alloc, Some(1))?);
+    Ok(crossfs_steady(alloc, words.as_slice(), &mut input, &mut output, shelf))
+}
+
+fn load(alloc: Global, shelf: &mut MemShelf, name: &str) -> Result<Vec<u8>, Fail> {
+    let word = Word::from_slice(alloc, name.as_bytes())?;
+    Ok(shelf.load(&word)?.into_vec())
+}
+
+#[test]
+fn mkfs_saves_a_new_image(rt: HostRuntime) -> Result<(), Fail> {
+    let alloc = rt.alloc();
+    let want = new_image(alloc, 16, 1)?;
+    assert_eq!(rt; want.len(), 190_904);
+    for image in ["d", "new"] {
+        let mut shelf = shelf_of_two(alloc, None)?;
+        let status = make_store(alloc, &mut shelf, image, "16", "1")?;
+        assert_eq!(rt; status, Status::Done);
+        let saved = load(alloc, &mut shelf, image)?;
+        assert!(rt; saved.as_slice() == want.as_slice(), "{image}");
+        let other = load(alloc, &mut shelf, "e")?;
+        assert_eq!(rt; other.as_slice(), b"old".as_slice());
+    }
+    Ok(())
+}
+
+#[test]
+fn mkfs_that_cannot_save_is_a_fault_of_the_shelf(rt: HostRuntime) -> Result<(), Fail> {
+    let alloc = rt.alloc();
+    let mut shelf = shelf_of_two(alloc, Some(1))?;
+    let status = make_store(alloc, &mut shelf, "d", "16", "1")?;
+    assert_eq!(rt; status, Status::Shelf);
+    assert_eq!(rt; shelf.save_faults(), 1);
+    for name in ["d", "e"] {
+        let kept = load(alloc, &mut shelf, name)?;
+        assert_eq!(rt; kept.as_slice(), b"old".as_slice(), "{name}");
+    }
+    Ok(())
+}
+
+#[test]
+fn mkfs_takes_numbers_in_their_ranges(rt: HostRuntime) -> Result<(), Fail> {
+    let alloc = rt.alloc();
+    for (image, blocks, queues) in [
+        ("-d", "16", "1"),
+        ("", "16", "1"),
+        ("d", "15", "1"),
+        ("d", "16385", "1"),
+        ("d", "4294967312", "1"),
+        ("d", "016", "1"),
+        ("d", "+16", "1"),
+        ("d", "16", "0"),
+        ("d", "16", "65"),
+        ("d", "16", ""),
+        ("d", "16 ", "1"),
+    ] {
+        let words = ["crossfs", "mkfs", image, blocks, queues];
+        let ended = run(alloc, &words, "", Some(1), None)?;
+        assert_eq!(rt; ended.status, Status::Usage, "{image} {blocks} {queues}");
+        assert_eq!(rt; ended.output.as_slice(), b"usage\n".as_slice());
+    }
+    for words in [
+        ["crossfs", "mkfs", "d", "16"],
+        ["crossfs", "mkfs", "16", "1"],
+    ] {
+        let ended = run(alloc, &words, "", Some(1), None)?;
+        assert_eq!(rt; ended.status, Status::Usage);
+    }
+    Ok(())
 }

@@ -1,8 +1,9 @@
-//! The program `crossfs`: the real streams and the words of the command line, handed to the top call.
+//! The program `crossfs`: the real streams and files and the words of the command line, handed to the
+//! top call.
 #![tactic(auto)]
 
 use cfs_file::{NoMemory, Word};
-use cfs_io::{MemShelf, StdSink, StdSource};
+use cfs_io::{FileShelf, StdSink, StdSource};
 use cfs_top::{Status, crossfs_steady};
 use std::alloc::Global;
 use std::env;
@@ -30,10 +31,10 @@ fn read_words<R: Env + AllocGlobal>(rt: &R, alloc: Global) -> Result<Vec<Word>, 
     Ok(words)
 }
 
-/// Runs the top call over the standard streams and an empty shelf.
+/// Runs the top call over the standard streams and the files of the system.
 fn run(rt: &HostRuntime, alloc: Global, words: &[Word]) -> Status {
     let mut input = StdSource::new(rt.stdin());
     let mut output = StdSink::new(rt.stdout());
-    let mut shelf = MemShelf::new(alloc, Vec::new(alloc));
+    let mut shelf = FileShelf::new(rt, alloc);
     crossfs_steady(alloc, words, &mut input, &mut output, &mut shelf)
 }

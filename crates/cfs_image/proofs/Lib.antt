@@ -1,0 +1,6 @@
+pub mod Crashing
+pub mod Freshness
+pub mod Headers
+pub mod Layouts
+pub mod Readings
+pub mod WordBytes

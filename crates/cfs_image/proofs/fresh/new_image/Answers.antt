@@ -1,0 +1,16 @@
+use Rattle.std.proofs.Common.{ℕ, ◌≡◌, ◌∙◌, ◌++◌, length, ap, arith}
+use Rattle.cfs_image.specs.Image.{header_of, words_bytes}
+use Rattle.cfs_image.proofs.Freshness.{made}
+use Rattle.cfs_image.proofs.fresh.new_image.Goals as goal
+
+pub returns : goal.returns
+returns c =
+    let counted : c.push_words-3.new.image.len ≡ length c.push_words-3.new.image.items = omega arith in
+    let head : c.push_words.new.image.items ≡ c.in_ok-image.image.items ++ words_bytes (header_of c.args.blocks c.args.queues) =
+    c.in_ok-push_words.ensures
+    ∙ ap (λ (n : ℕ). c.in_ok-image.image.items ++ words_bytes (header_of n c.from-2.result)) c.from.ensures
+    ∙ ap (λ (n : ℕ). c.in_ok-image.image.items ++ words_bytes (header_of c.args.blocks n)) c.from-2.ensures in
+    c.from_vec.ensures
+    ∙ made c.args.blocks c.args.queues c.image_len-len.result c.push_words-3.new.image.len c.in_ok-image.image.items c.push_words.new.image.items c.push_words-2.new.image.items
+    c.push_words-3.new.image.items c.resize.new.self.items c.in_ok-image.ensures.items head c.in_ok-push_words-2.ensures c.in_ok-push_words-3.ensures
+    c.in_ok-resize.ensures.items counted c.image_len-len.ensures

@@ -1,0 +1,7 @@
+pub mod Checks
+pub mod Crash
+pub mod Fresh
+pub mod Image
+pub mod Layout
+pub mod Reading
+pub mod Store
