@@ -212,7 +212,11 @@ fn other_event(alloc: Global, core: &Core, step: &Move<'_>) -> Result<Event, NoM
 
 /// Makes the moves one by one: the core after them, or the number of the first that is refused.
 fn play(alloc: Global, moves: &str) -> Result<Result<Core, u64>, NoMemory> {
-    let mut core = Core::empty(alloc)?;
+    play_on(alloc, Core::empty(alloc)?, moves)
+}
+
+fn play_on(alloc: Global, core: Core, moves: &str) -> Result<Result<Core, u64>, NoMemory> {
+    let mut core = core;
     let mut at: u64 = 0;
     for text in moves.split(';') {
         let event = event_of(alloc, &core, &read_move(text))?;
@@ -477,5 +481,51 @@ fn every_event_is_refused_where_it_has_no_case(rt: HostRuntime) -> Result<(), Fa
     ] {
         assert_eq!(rt; play(alloc, moves)?.err(), Some(last), "{name}");
     }
+    Ok(())
+}
+
+/// Two hundred moves, drawn among those that may come, and a truncate. The answers of their reads were
+/// worked out from the requests alone.
+const LONG_RUN: [&str; 25] = [
+    "tag 0;put 1 5 elc;read 2 5;put 3 7 h;dispatch 1;tag-fails 1;put 4 4 m;write 1 0;tag 2",
+    "put 5 4090 e;flush 1 0;retire 1;drop 2;read 6 4100;cut 7 4095;dispatch 5;cut 8 8196;back 5",
+    "tag 1;dispatch 7;sync 9;write 7 1;write 7 0;read 10 4094;flush 7 1;serve 6;flush 7 0",
+    "sync 11;back 7;dispatch 7;drop 10;write 7 1;flush 7 1;write 7 0;read 12 2;flush 7 0;more 7",
+    "dispatch 4;write 4 0;dispatch 7;back 7;dispatch 7;flush 4 0;write 7 2;retire 4;dispatch 3",
+    "cut 13 7;mark-fails 8 13;mark 8 13;append 14 0 ui;mark 5 13;skip 5;flush 7 2;gate-fails 7",
+    "skip 8;lose 15 8188 mc;mark 7 13;write 3 0;flush 3 0;retire 3;serve 12 0 \0\0melh\0\0\0",
+    "dispatch 13;write 13 0;serve 11;sync 15;flush 13 0;read 16 8;skip 7;write 13 1;flush 13 1",
+    "more 13;serve 9;dispatch 13;write 13 2;flush 13 2;retire 13;dispatch 14;write 14 0",
+    "flush 14 0;read 17 4094;retire 14;serve 15;serve 16 0 i;crash-open;mount;read 1 4100",
+    "read 2 11;serve 1 0 \0\0\0\0\0\0\0\0\0;read 3 4098;put 4 8189 vg;dispatch 4;drop 2;cut 5 0",
+    "write 4 1;read 6 2;flush 4 1;serve 6;drop 3;put 7 5 kmzklh;retire 4;append 8 0 awkw",
+    "append 9 0 boy;read 10 10;dispatch 5;lose 11 2 mngtz;write 5 1;write 5 0;read 11 4100",
+    "serve 11;read 12 4094;serve 12;sync 13;sync 14;flush 5 0;flush 5 1;drop 10;more 5",
+    "dispatch 5;crash-open;mount;cut 1 4093;dispatch 1;write 1 0;write 1 1;flush-fails 1 0",
+    "append 2 0 ox;flush 1 0;lose 3 9 cznn;settle;flush 1 1;put 3 4090 wuy;read 4 1;drop 4",
+    "read 5 4099;lose 6 4092 usprf;read 6 4093;read 7 6;drop 6;back 1;dispatch 3;serve 5;settle",
+    "write 3 0;flush 3 0;sync 8;retire 3;dispatch 1;crash;mount;put 1 1 vqfz;put 2 4093 qyajzp",
+    "put 3 1 r;dispatch 2;write 2 1;put 4 4092 vs;trim-fails 2;write 2 0;tag 2;sync 5",
+    "put 6 10 jsyov;back 2;dispatch 6;trim 2;read 7 4099;write 6 0;read 8 4099;tag 2;flush 6 0",
+    "retire 6;dispatch 1;serve 7;read 9 10;put 10 4090 imwmtn;mark 4 10;put 11 8192 oibk;serve 8",
+    "write 1 0;read 12 4100;dispatch 11;write 11 2;flush 11 2;drop 12;retire 11;read 13 6",
+    "put 14 4091 finkj;flush 1 0;size-fails 1;serve 9 0 jsyovboy\0;dispatch 2;tear 2 1 ###",
+    "skip 4;write 2 0;write 2 1;flush 2 0;read 15 2;flush-fails 2 1;drop 13;back 2;dispatch 1",
+    "write 1 0;cut 16 24",
+];
+
+#[test]
+fn a_long_run_recovers_its_file(rt: HostRuntime) -> Result<(), Fail> {
+    let alloc = rt.alloc();
+    let mut core = Core::empty(alloc)?;
+    for moves in LONG_RUN {
+        core = play_on(alloc, core, moves)?.ok().ok_or(moves)?;
+    }
+    let image = image_now(alloc, &core)?;
+    let file = recovered_file(alloc, &core, &image)?;
+    assert_eq!(rt;
+        file.as_slice(),
+        b"\0rqfztzzkljsyovboy\0\0\0\0\0\0".as_slice()
+    );
     Ok(())
 }
