@@ -15,12 +15,15 @@ pub mod LoggedMarks
 pub mod LoggedPush
 pub mod LoggedTags
 pub mod Moments
+pub mod Opened
+pub mod Openings
 pub mod Order
 pub mod Recovers
 pub mod Registers
 pub mod Runs
 pub mod Served
 pub mod Sizes
+pub mod SizesFit
 pub mod Stored
 pub mod StoredAdmit
 pub mod StoredCrash

@@ -62,7 +62,7 @@ follows_crash core image old h = record {
 }
 
 -- a tag that is on is so in every image
-tag_stays : (core : Core) (image : Image) (k : ℕ) → is_image core image ≡ true → is_on (get_or core.tags k Off) ≡ true →
+pub tag_stays : (core : Core) (image : Image) (k : ℕ) → is_image core image ≡ true → is_on (get_or core.tags k Off) ≡ true →
     is_on (get_or (map (λ bit. flag_of bit) image.tags) k Off) ≡ true
 tag_stays core image k h on =
     rw (sure_tag image.tags k) (on_stays (get_or core.tags k Off) (get_or image.tags k false) (tag-allowed core image k h) on)

@@ -12,6 +12,7 @@ use Rattle.cfs_core.specs.May.{may}
 use Rattle.cfs_core.specs.Good.{IsGood}
 use Rattle.cfs_core.specs.Within.{within}
 use Rattle.cfs_core.specs.Run.{IsRun, after_all}
+use Rattle.cfs_core.specs.Opened.{OpensWell}
 
 -- After each event of every run of a fresh core, mounts included, the core is good.
 abbrev pub RunsAreGood : Type 0
@@ -54,3 +55,10 @@ LiveAreOpen =
     (place : ℕ) → is_live (track (after_all core events).tracks place).state ≡ true →
     (track (after_all core events).tracks place).applied ≡ false → is_off (track (after_all core events).tracks place).mark ≡ true →
     is_open image place ≡ true
+
+-- In every run, each image that a crash may leave opens as a core of its own, whose file is the recovered
+-- one, and every run of that core is good. So a mount may bring the live entries home one by one.
+abbrev pub ImagesOpenAsCores : Type 0
+ImagesOpenAsCores =
+    (core : Core) (events : List Event) (image : Image) → IsFresh core → IsRun core events →
+    is_image (after_all core events) image ≡ true → OpensWell (after_all core events) image

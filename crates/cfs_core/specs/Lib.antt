@@ -7,4 +7,5 @@ pub mod May
 pub mod After
 pub mod Within
 pub mod Run
+pub mod Opened
 pub mod Laws

@@ -1,6 +1,6 @@
 //! What holds of every run, as contracts of functions that do nothing.
 
-ghost use Rattle.cfs_core.specs.Laws.{JobsAreApart, LiveAreOpen, MarkedAreCovered, MomentsMayCome, OnlyLiveAreOpen, RunsAreGood};
+ghost use Rattle.cfs_core.specs.Laws.{ImagesOpenAsCores, JobsAreApart, LiveAreOpen, MarkedAreCovered, MomentsMayCome, OnlyLiveAreOpen, RunsAreGood};
 
 /// After each event of every run of a fresh core, whatever failed and wherever it crashed, the log is
 /// legal, a read that may be served gets its answer, and every image recovers the file after the log.
@@ -31,4 +31,10 @@ pub fn marked_are_covered()
 /// What is live is open in an image, unless it is applied or a mark of it was tried.
 pub fn live_are_open()
     ensures { LiveAreOpen }
+{}
+
+/// An image that a crash left is itself a core, whose log is the live entries: however they are brought
+/// home, and wherever that is cut off, what is recovered is the same file.
+pub fn images_open_as_cores()
+    ensures { ImagesOpenAsCores }
 {}
