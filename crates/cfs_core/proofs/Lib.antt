@@ -14,6 +14,7 @@ pub mod LoggedJobs
 pub mod LoggedMarks
 pub mod LoggedPush
 pub mod LoggedTags
+pub mod Marks
 pub mod Moments
 pub mod Opened
 pub mod Openings

@@ -1,8 +1,10 @@
 -- What holds of every run.
-use Rattle.std.specs.Prelude.{◌≡◌, ℕ, ◌<◌, true, false, List}
+use Rattle.std.specs.Prelude.{◌≡◌, ℕ, ◌<◌, Bool, true, false, List}
 use Rattle.std.specs.List.{list_all}
+use Rattle.cfs_file.specs.declared.entry.Entry.{Entry}
 use Rattle.cfs_file.specs.Span.{meets, reaches_over}
 use Rattle.cfs_core.specs.declared.event.Event.{Event}
+use Rattle.cfs_core.specs.declared.event.Event.TheVariants as events
 use Rattle.cfs_core.specs.declared.inode_core.Core.{Core}
 use Rattle.cfs_core.specs.declared.image.Image.{Image}
 use Rattle.cfs_core.specs.Words.{is_live, is_off, is_out, track}
@@ -11,7 +13,9 @@ use Rattle.cfs_core.specs.Medium.{bit_at, is_image, is_open}
 use Rattle.cfs_core.specs.May.{may}
 use Rattle.cfs_core.specs.Good.{IsGood}
 use Rattle.cfs_core.specs.Within.{within}
+use Rattle.cfs_core.specs.After.{after}
 use Rattle.cfs_core.specs.Run.{IsRun, after_all}
+use Rattle.cfs_core.specs.Marks.{marks_by, marks_to_try}
 use Rattle.cfs_core.specs.Opened.{OpensWell}
 
 -- After each event of every run of a fresh core, mounts included, the core is good.
@@ -62,3 +66,11 @@ abbrev pub ImagesOpenAsCores : Type 0
 ImagesOpenAsCores =
     (core : Core) (events : List Event) (image : Image) → IsFresh core → IsRun core events →
     is_image (after_all core events) image ≡ true → OpensWell (after_all core events) image
+
+-- After a change is admitted, the marks that it may set may come one after another, whichever of them are
+-- kept.
+abbrev pub MarksMayFollow : Type 0
+MarksMayFollow =
+    (core : Core) (entry : Entry) (grant : ℕ) (kept : ℕ → Bool) → may core (events.Admit entry grant true) ≡ true →
+    IsRun (after core (events.Admit entry grant true))
+    (marks_by entry.place kept (marks_to_try (after core (events.Admit entry grant true)) entry.place))

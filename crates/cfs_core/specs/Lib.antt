@@ -8,4 +8,5 @@ pub mod After
 pub mod Within
 pub mod Run
 pub mod Opened
+pub mod Marks
 pub mod Laws

@@ -1,6 +1,6 @@
 //! What holds of every run, as contracts of functions that do nothing.
 
-ghost use Rattle.cfs_core.specs.Laws.{ImagesOpenAsCores, JobsAreApart, LiveAreOpen, MarkedAreCovered, MomentsMayCome, OnlyLiveAreOpen, RunsAreGood};
+ghost use Rattle.cfs_core.specs.Laws.{ImagesOpenAsCores, JobsAreApart, LiveAreOpen, MarkedAreCovered, MarksMayFollow, MomentsMayCome, OnlyLiveAreOpen, RunsAreGood};
 
 /// After each event of every run of a fresh core, whatever failed and wherever it crashed, the log is
 /// legal, a read that may be served gets its answer, and every image recovers the file after the log.
@@ -37,4 +37,9 @@ pub fn live_are_open()
 /// home, and wherever that is cut off, what is recovered is the same file.
 pub fn images_open_as_cores()
     ensures { ImagesOpenAsCores }
+{}
+
+/// After a change is admitted, each mark that it may set may still come once those before it were tried.
+pub fn marks_may_follow()
+    ensures { MarksMayFollow }
 {}
