@@ -7,6 +7,7 @@ pub mod Images
 pub mod Kept
 pub mod KeptRuns
 pub mod Legal
+pub mod Listing
 pub mod Logged
 pub mod LoggedCrash
 pub mod LoggedFrames

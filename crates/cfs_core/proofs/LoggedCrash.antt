@@ -35,7 +35,7 @@ on_stays On false can on = cc
 on_stays Unsure b can on = cc
 
 -- what stands at an index of the tracks that a crash makes sure
-sure_at : (core : Core) (image : Image) (k : ℕ) →
+pub sure_at : (core : Core) (image : Image) (k : ℕ) →
     ((k < length core.tracks) × (get_or (sure_tracks core.tracks image.gates image.marks) k blank ≡ sure_track (get_or core.tracks k blank) (get_or image.gates k false) (get_or image.marks k false)))
     ⊎ ((get_or (sure_tracks core.tracks image.gates image.marks) k blank ≡ blank) × (get_or core.tracks k blank ≡ blank))
 sure_at core image k = elim (cases_lt k (length core.tracks)) [

@@ -16,6 +16,7 @@ use Rattle.cfs_core.specs.Within.{within}
 use Rattle.cfs_core.specs.After.{after}
 use Rattle.cfs_core.specs.Run.{IsRun, after_all}
 use Rattle.cfs_core.specs.Marks.{marks_by, marks_to_try}
+use Rattle.cfs_core.specs.Listing.{listing, relisted}
 use Rattle.cfs_core.specs.Opened.{OpensWell}
 
 -- After each event of every run of a fresh core, mounts included, the core is good.
@@ -74,3 +75,10 @@ MarksMayFollow =
     (core : Core) (entry : Entry) (grant : ℕ) (kept : ℕ → Bool) → may core (events.Admit entry grant true) ≡ true →
     IsRun (after core (events.Admit entry grant true))
     (marks_by entry.place kept (marks_to_try (after core (events.Admit entry grant true)) entry.place))
+
+-- In every run, this is what each event makes of the queue of each grant.
+abbrev pub ListedUntilClosed : Type 0
+ListedUntilClosed =
+    (core : Core) (events : List Event) (event : Event) (grant : ℕ) → IsFresh core → IsRun core events →
+    may (after_all core events) event ≡ true →
+    listing (after (after_all core events) event) grant ≡ relisted grant event (listing (after_all core events) grant)

@@ -9,4 +9,5 @@ pub mod Within
 pub mod Run
 pub mod Opened
 pub mod Marks
+pub mod Listing
 pub mod Laws

@@ -1,6 +1,6 @@
 //! What holds of every run, as contracts of functions that do nothing.
 
-ghost use Rattle.cfs_core.specs.Laws.{ImagesOpenAsCores, JobsAreApart, LiveAreOpen, MarkedAreCovered, MarksMayFollow, MomentsMayCome, OnlyLiveAreOpen, RunsAreGood};
+ghost use Rattle.cfs_core.specs.Laws.{ImagesOpenAsCores, JobsAreApart, ListedUntilClosed, LiveAreOpen, MarkedAreCovered, MarksMayFollow, MomentsMayCome, OnlyLiveAreOpen, RunsAreGood};
 
 /// After each event of every run of a fresh core, whatever failed and wherever it crashed, the log is
 /// legal, a read that may be served gets its answer, and every image recovers the file after the log.
@@ -42,4 +42,10 @@ pub fn images_open_as_cores()
 /// After a change is admitted, each mark that it may set may still come once those before it were tried.
 pub fn marks_may_follow()
     ensures { MarksMayFollow }
+{}
+
+/// A change stands in the queue of its grant from its admission until it is closed, and there is written
+/// what became of it; a mount begins with empty queues.
+pub fn listed_until_closed()
+    ensures { ListedUntilClosed }
 {}
