@@ -26,6 +26,7 @@ pub mod Runs
 pub mod Served
 pub mod Sizes
 pub mod SizesFit
+pub mod Steps
 pub mod Stored
 pub mod StoredAdmit
 pub mod StoredCrash

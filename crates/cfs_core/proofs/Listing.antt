@@ -30,7 +30,7 @@ use Rattle.cfs_core.proofs.StoredFrames.{same_test}
 
 -- ---- lists
 
-other_number : (a b : ℕ) → (a ≡ b → ⊥) → (a == b) ≡ false
+pub other_number : (a b : ℕ) → (a ≡ b → ⊥) → (a == b) ≡ false
 other_number a b apart = grind (arith, nat_tests)
 
 -- another place

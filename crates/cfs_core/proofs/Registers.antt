@@ -72,7 +72,7 @@ unsettled (Some b) none = absurd (none (b, refl))
 pub none-settles : (o : Option Bool) → o ≡ None → ((b : Bool) × (o ≡ Some b)) → ⊥
 none-settles o none some = let is : o ≡ Some some.0 = some.1 in cc
 
-byte_written : (file : List ℕ) (bytes : List ℕ) (from p : ℕ) → from ≤ p → p < from + length bytes → get_or (put file from bytes) p 0 ≡ get_or bytes (p - from) 0
+pub byte_written : (file : List ℕ) (bytes : List ℕ) (from p : ℕ) → from ≤ p → p < from + length bytes → get_or (put file from bytes) p 0 ≡ get_or bytes (p - from) 0
 byte_written file bytes from p low high =
     let here : from + (p - from) ≡ p = omega arith in
     rw here at ((put-writes file from bytes).written (p - from) (omega arith))

@@ -1,5 +1,5 @@
 -- What holds of every run.
-use Rattle.std.specs.Prelude.{◌≡◌, ℕ, ◌<◌, Bool, true, false, List}
+use Rattle.std.specs.Prelude.{◌≡◌, ◌≢◌, ℕ, ◌<◌, Bool, true, false, List}
 use Rattle.std.specs.List.{list_all}
 use Rattle.cfs_file.specs.declared.entry.Entry.{Entry}
 use Rattle.cfs_file.specs.Span.{meets, reaches_over}
@@ -17,6 +17,7 @@ use Rattle.cfs_core.specs.After.{after}
 use Rattle.cfs_core.specs.Run.{IsRun, after_all}
 use Rattle.cfs_core.specs.Marks.{marks_by, marks_to_try}
 use Rattle.cfs_core.specs.Listing.{listing, relisted}
+use Rattle.cfs_core.specs.Steps.{Commute, JobStep, StaysInside, step_of}
 use Rattle.cfs_core.specs.Opened.{OpensWell}
 
 -- After each event of every run of a fresh core, mounts included, the core is good.
@@ -82,3 +83,18 @@ ListedUntilClosed =
     (core : Core) (events : List Event) (event : Event) (grant : ℕ) → IsFresh core → IsRun core events →
     may (after_all core events) event ≡ true →
     listing (after (after_all core events) event) grant ≡ relisted grant event (listing (after_all core events) grant)
+
+-- In every run, a write or a flush of a job changes nothing beside its entry's track and its block.
+abbrev pub StepsStayInside : Type 0
+StepsStayInside =
+    (core : Core) (events : List Event) → IsFresh core → IsRun core events →
+    (place block : ℕ) (step : JobStep) → may (after_all core events) (step_of place block step) ≡ true →
+    StaysInside place block (after_all core events) (after (after_all core events) (step_of place block step))
+
+-- In every run, where two steps of different jobs on different blocks may come, either may come first.
+abbrev pub JobStepsCommute : Type 0
+JobStepsCommute =
+    (core : Core) (events : List Event) → IsFresh core → IsRun core events →
+    (place other block beside : ℕ) (one two : JobStep) → place ≢ other → block ≢ beside →
+    may (after_all core events) (step_of place block one) ≡ true → may (after_all core events) (step_of other beside two) ≡ true →
+    Commute (after_all core events) (step_of place block one) (step_of other beside two)

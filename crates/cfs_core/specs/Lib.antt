@@ -10,4 +10,5 @@ pub mod Run
 pub mod Opened
 pub mod Marks
 pub mod Listing
+pub mod Steps
 pub mod Laws

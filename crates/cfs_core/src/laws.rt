@@ -1,6 +1,6 @@
 //! What holds of every run, as contracts of functions that do nothing.
 
-ghost use Rattle.cfs_core.specs.Laws.{ImagesOpenAsCores, JobsAreApart, ListedUntilClosed, LiveAreOpen, MarkedAreCovered, MarksMayFollow, MomentsMayCome, OnlyLiveAreOpen, RunsAreGood};
+ghost use Rattle.cfs_core.specs.Laws.{ImagesOpenAsCores, JobStepsCommute, JobsAreApart, ListedUntilClosed, LiveAreOpen, MarkedAreCovered, MarksMayFollow, MomentsMayCome, OnlyLiveAreOpen, RunsAreGood, StepsStayInside};
 
 /// After each event of every run of a fresh core, whatever failed and wherever it crashed, the log is
 /// legal, a read that may be served gets its answer, and every image recovers the file after the log.
@@ -48,4 +48,15 @@ pub fn marks_may_follow()
 /// what became of it; a mount begins with empty queues.
 pub fn listed_until_closed()
     ensures { ListedUntilClosed }
+{}
+
+/// A write or a flush of a job changes nothing beside its entry's track and its block.
+pub fn steps_stay_inside()
+    ensures { StepsStayInside }
+{}
+
+/// Two jobs whose steps may both come do not see each other: in either order they make the same core, but
+/// that its stretches may stand in another order.
+pub fn job_steps_commute()
+    ensures { JobStepsCommute }
 {}
