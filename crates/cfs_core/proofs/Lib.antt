@@ -1,3 +1,4 @@
+pub mod Again
 pub mod Alive
 pub mod Apart
 pub mod Covered

@@ -18,9 +18,10 @@ use Rattle.cfs_core.specs.declared.doubt.Doubt.{Doubt}
 use Rattle.cfs_core.specs.declared.image.Image.{Image}
 use Rattle.cfs_core.specs.declared.inode_core.Core.{Core}
 use Rattle.cfs_core.specs.Words.{blank, flag_of, payload, track}
-use Rattle.cfs_core.specs.Medium.{allow_bits, file, is_image, is_open, live_entries, open_entries, placed, placed_doubt, placed_entry, rests, stored, stored_byte}
+use Rattle.cfs_core.specs.Medium.{allow_bits, file, is_image, is_open, live_entries, open_entries, placed, placed_doubt, placed_entry, recovered, rests, stored, stored_byte}
 use Rattle.cfs_core.specs.May.{is_change}
 use Rattle.cfs_core.specs.Opened.{OpensWell, numbered, open_tracks, opened, opened_doubt, opened_track}
+use Rattle.cfs_core.proofs.Again.{again}
 use Rattle.cfs_core.proofs.Goods.{good-kept}
 use Rattle.cfs_core.proofs.Images.{at-next, length-stored, opens, opens-live, rests-stored, size-allowed, stored-past, stored-within, tags_of_image}
 use Rattle.cfs_core.proofs.Kept.{IsChange, IsKept, IsLast, IsLive, at, byte_of, file_at}
@@ -219,6 +220,13 @@ opened-waits core kept fit image h =
 
 pub opens-well : (core : Core) → IsKept core → SizesFit core → (image : Image) → is_image core image ≡ true → OpensWell core image
 opens-well core kept fit image h = record {
-  file_is = numbered-file (stored image) 1 (live_entries core image);
-  good = λ steps run. good-kept _ (kept-run (opened core image) steps (waiting-kept (opened core image) (opened-waits core kept fit image h)) run);
+  file_is = file_is;
+  good = λ steps run. good-kept _ (kept-run (opened core image) steps opened_kept run);
+  again = λ steps left run none is. again (opened core image) steps left opened_kept refl run none is ∙ file_is;
 }
+  where
+    opened_kept : IsKept (opened core image)
+    opened_kept = waiting-kept (opened core image) (opened-waits core kept fit image h)
+
+    file_is : file (opened core image) ≡ recovered core image
+    file_is = numbered-file (stored image) 1 (live_entries core image)

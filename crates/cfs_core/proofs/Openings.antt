@@ -1,5 +1,5 @@
 -- A core whose entries all wait, each a change as its slot holds it, keeps the invariant.
-use Rattle.std.proofs.Common.{◌≡◌, ◌⊎◌, inl, inr, ℕ, suc, zero, ◌+◌, ◌<◌, ◌==◌, Bool, true, false, ◌||◌, None, Some, List, [], ◌∷◌, ◌++◌, length, take, get_or, arith, refl, sym, ap, ◌∙◌, subst}
+use Rattle.std.proofs.Common.{◌≡◌, ◌⊎◌, inl, inr, ℕ, suc, zero, ◌+◌, ◌<◌, ◌==◌, true, false, ◌||◌, None, Some, List, [], ◌∷◌, ◌++◌, length, take, get_or, arith, refl, sym, ap, ◌∙◌, subst}
 use Rattle.std.specs.List.{slice_get}
 use Rattle.std.proofs.lemmas.Bool.{cases_lt}
 use Rattle.std.proofs.lemmas.List.{get_or_past}
@@ -24,7 +24,7 @@ use Rattle.cfs_core.proofs.Kept.{IsChange, IsFree, IsKept, IsLive, IsLogged, IsS
 use Rattle.cfs_core.proofs.Order.{IsOrdered, Places}
 use Rattle.cfs_core.proofs.Registers.{change-within, file_at-all, file_at-none, find-last, longer-none}
 use Rattle.cfs_core.proofs.SizesFit.{FitsFile, change-fits}
-use Rattle.cfs_core.proofs.StoredFrames.{only_size}
+use Rattle.cfs_core.proofs.StoredFrames.{no_clash, only_size}
 
 -- ---- entries
 
@@ -159,13 +159,10 @@ opening-is core waiting k entry is =
     let same : some.0 ≡ entry = cc in
     subst (λ (e : Entry). IsOpening core.tags e (at core k)) same some.1.1
 
-no_clash_of : (b : Bool) → b ≡ false → b ≡ true → ⊥
-no_clash_of b off on = cc
-
 view-end : (core : Core) → IsWaitingCore core → (v p : ℕ) → IsView core v p → v ≡ length core.log
 view-end core waiting v p view = elim view [
   | inl end ↦ end
-  | inr read ↦ absurd (no_clash_of (is_unserved (at core v).state) (idle core waiting v).unserved read.0)
+  | inr read ↦ absurd (no_clash (is_unserved (at core v).state) read.0 (idle core waiting v).unserved)
 ]
 
 waiting-ordered : (core : Core) → IsWaitingCore core → IsOrdered core
@@ -180,16 +177,16 @@ waiting-logged core waiting = record {
   kinds = λ k entry is. inl (opening-is core waiting k entry is).change;
   spans = λ k entry is. (opening-is core waiting k entry is).span_is (length (file_at core k));
   live_changes = λ k live. change-of core k (live-opening core waiting k live);
-  busy_changes = λ k busy. absurd (no_clash_of (is_busy (at core k)) (idle core waiting k).busy busy);
-  queries = λ k asks. absurd (no_clash_of (is_unserved (at core k).state) (idle core waiting k).unserved asks);
-  idle = λ k block applied. absurd (no_clash_of (at core k).applied (idle core waiting k).applied applied);
+  busy_changes = λ k busy. absurd (no_clash (is_busy (at core k)) busy (idle core waiting k).busy);
+  queries = λ k asks. absurd (no_clash (is_unserved (at core k).state) asks (idle core waiting k).unserved);
+  idle = λ k block applied. absurd (no_clash (at core k).applied applied (idle core waiting k).applied);
   mapped = λ k live. (live-opening core waiting k live).1.1.mapped;
-  covered = λ k off. absurd (no_clash_of (is_off (at core k).mark) off (idle core waiting k).mark);
+  covered = λ k off. absurd (no_clash (is_off (at core k).mark) (idle core waiting k).mark off);
   order = λ v i p view less live alters. elim (find-last core v p) [
     | inl last ↦ (last.0, (change-live core waiting last.0 last.1.1.0, last.1))
     | inr none ↦ absurd (none i less alters)
   ];
-  clear = λ v k less asks busy. absurd (no_clash_of (is_busy (at core k)) (idle core waiting k).busy busy);
+  clear = λ v k less asks busy. absurd (no_clash (is_busy (at core k)) busy (idle core waiting k).busy);
   doubtful = λ d is. absurd (let none : core.doubt ≡ None = waiting.doubt in cc);
 }
 
@@ -223,8 +220,8 @@ waiting-stored core waiting = record {
       (λ j less change. none j (change-live core waiting j change)) in
       let all : file_at core (length core.log) ≡ file core = file_at-all core in
       rw (size-is core waiting s is, sym all) (sym file_long);
-  applied_rests = λ k p live applied alters. absurd (no_clash_of (at core k).applied (idle core waiting k).applied applied);
-  applied_size = λ k s live applied is. absurd (no_clash_of (at core k).applied (idle core waiting k).applied applied);
+  applied_rests = λ k p live applied alters. absurd (no_clash (at core k).applied applied (idle core waiting k).applied);
+  applied_size = λ k s live applied is. absurd (no_clash (at core k).applied applied (idle core waiting k).applied);
 }
 
 pub waiting-kept : (core : Core) → IsWaitingCore core → IsKept core
@@ -237,7 +234,7 @@ waiting-kept core waiting = record {
   blocks = waiting.blocks;
   ordered = waiting-ordered core waiting;
   sound = λ k. (idle core waiting k).sound;
-  apart = λ i j less live busy. absurd (no_clash_of (is_busy (at core j)) (idle core waiting j).busy busy);
+  apart = λ i j less live busy. absurd (no_clash (is_busy (at core j)) busy (idle core waiting j).busy);
   logged = waiting-logged core waiting;
   stored_ = waiting-stored core waiting;
 }

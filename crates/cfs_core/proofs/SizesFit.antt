@@ -1,5 +1,5 @@
 -- Each size that the size word may have is that of a file, and each change ends within the longest file.
-use Rattle.std.proofs.Common.{◌≡◌, ◌⊎◌, inl, inr, ℕ, suc, ◌-◌, ◌≤◌, ◌==◌, Bool, true, false, ◌||◌, Some, None, List, [], ◌∷◌, ◌++◌, length, arith, refl}
+use Rattle.std.proofs.Common.{◌≡◌, inl, inr, ℕ, suc, ◌-◌, ◌≤◌, ◌==◌, true, false, ◌||◌, Some, None, List, [], ◌∷◌, ◌++◌, length, arith, refl}
 use Rattle.std.specs.List.{list_any}
 use Rattle.cfs_file.specs.declared.request.Request.{Request}
 use Rattle.cfs_file.specs.declared.span.Span.{Span}
@@ -25,12 +25,13 @@ use Rattle.cfs_core.proofs.Freshly.{kept-fresh, size-fresh}
 use Rattle.cfs_core.proofs.Images.{size-allowed}
 use Rattle.cfs_core.proofs.Kept.{IsChange, IsKept, at, file_at}
 use Rattle.cfs_core.proofs.KeptRuns.{kept-after, mount-fits}
-use Rattle.cfs_core.proofs.Legal.{both}
+use Rattle.cfs_core.proofs.Legal.{both, same_number}
 use Rattle.cfs_core.proofs.Moments.{or_right}
 use Rattle.cfs_core.proofs.Order.{track_is}
 use Rattle.cfs_core.proofs.Registers.{IsShaped, change-effect, change-entry, change-within, effect_by, file_at-next, shaped-request}
 use Rattle.cfs_core.proofs.Sizes.{length-put}
-use Rattle.cfs_core.proofs.StoredFrames.{only_size, same_test}
+use Rattle.cfs_core.proofs.StoredFinish.{any_more}
+use Rattle.cfs_core.proofs.StoredFrames.{now_size, only_size, or_cases}
 
 -- ---- spans
 
@@ -78,35 +79,16 @@ change-ends core kept k change =
 abbrev pub SizesFit : Core → Type 0
 SizesFit core = (s : ℕ) → is_size core s ≡ true → s ≤ LONGEST_FILE
 
--- one more size
-either_size : (s n : ℕ) (rest : Bool) → ((s == n) || rest) ≡ true → (s ≡ n) ⊎ (rest ≡ true)
-either_size s n true h = inr refl
-either_size s n false h = inl (only_size s n h)
-
-or_left : (a b : Bool) → a ≡ true → (a || b) ≡ true
-or_left true b is = refl
-or_left false b is = cc
-
-any_snoc : (xs : List ℕ) (n s : ℕ) → list_any (λ x. s == x) (xs ++ n ∷ []) ≡ true → (list_any (λ x. s == x) xs ≡ true) ⊎ (s ≡ n)
-any_snoc [] n s h = inr (only_size s n h)
-any_snoc (x ∷ xs) n s h = elim (either_size s x (list_any (λ y. s == y) (xs ++ n ∷ [])) h) [
-  | inl here ↦ inl (or_left (s == x) (list_any (λ y. s == y) xs) (same_test s x here))
-  | inr rest ↦ elim (any_snoc xs n s rest) [
-    | inl old ↦ inl (or_right (s == x) (list_any (λ y. s == y) xs) old)
-    | inr new ↦ inr new
-  ]
-]
-
 -- the core with another size, or with one more
 set_fits : (n s : ℕ) → n ≤ LONGEST_FILE → ((s == n) || false) ≡ true → s ≤ LONGEST_FILE
 set_fits n s short is = omega (arith, only_size s n is)
 
 either_fits : (core : Core) (n s : ℕ) → SizesFit core → n ≤ LONGEST_FILE → ((s == n) || list_any (λ x. s == x) (core.sizes ++ core.size ∷ [])) ≡ true → s ≤ LONGEST_FILE
-either_fits core n s fit short is = elim (either_size s n (list_any (λ x. s == x) (core.sizes ++ core.size ∷ [])) is) [
-  | inl new ↦ omega arith
-  | inr old ↦ elim (any_snoc core.sizes core.size s old) [
-    | inl other ↦ fit s (or_right (s == core.size) (list_any (λ x. s == x) core.sizes) other)
-    | inr was ↦ fit s (or_left (s == core.size) (list_any (λ x. s == x) core.sizes) (same_test s core.size was))
+either_fits core n s fit short is = elim (or_cases (s == n) (list_any (λ x. s == x) (core.sizes ++ core.size ∷ [])) is) [
+  | inl new ↦ omega (arith, same_number s n new)
+  | inr old ↦ elim (any_more s core.sizes core.size old) [
+    | inl was ↦ fit s (rw was (now_size core))
+    | inr other ↦ fit s (or_right (s == core.size) (list_any (λ x. s == x) core.sizes) other)
   ]
 ]
 
@@ -115,7 +97,7 @@ out-size : (core : Core) (place : ℕ) → IsKept core → SizesFit core → is_
 out-size core place kept fit out =
     let here : track core.tracks place ≡ at core (place - 1) = track_is core.tracks place (place - 1) no_place refl in
     let own : is_out (at core (place - 1)).state ≡ true = rw here at out in
-    rw here (sized-fits core.size (at core (place - 1)).span (fit core.size (or_left (core.size == core.size) (list_any (λ x. core.size == x) core.sizes) (same_test core.size core.size refl)))
+    rw here (sized-fits core.size (at core (place - 1)).span (fit core.size (now_size core))
     (change-ends core kept (place - 1) (kept.logged.live_changes (place - 1) (out_lives (at core (place - 1)).state own))))
   where
     no_place : place ≡ 0 → ⊥

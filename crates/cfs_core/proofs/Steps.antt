@@ -1,7 +1,7 @@
 -- The steps of jobs stay inside their blocks, so that those of different blocks commute.
 use Rattle.std.proofs.Common.{◌≡◌, inl, inr, ℕ, suc, zero, ◌+◌, ◌-◌, ◌*◌, ◌/◌, ◌<◌, ◌≤◌, ◌==◌, Bool, true, false, ◌&&◌, ◌||◌, not, cond, Option, Some, None, List, [], ◌∷◌, ◌++◌, length, filter, get_or, set, nat_le, nat_lt, arith, refl, sym, ap, ◌∙◌}
 use Rattle.std.specs.List.{list_all}
-use Rattle.std.proofs.lemmas.Bool.{cases_lt}
+use Rattle.std.proofs.lemmas.Bool.{cases_lt, ltb-true}
 use Rattle.std.proofs.lemmas.Bool.Decides.{nat_tests}
 use Rattle.std.proofs.lemmas.List.{set-get_or, set_comm}
 use Rattle.std.proofs.lemmas.List.Folds.{list_any-append}
@@ -180,15 +180,12 @@ and_false : (b : Bool) → (b && false) ≡ false
 and_false true = refl
 and_false false = refl
 
-less_of : (a b : ℕ) → nat_lt a b ≡ true → a < b
-less_of a b test = grind (arith, nat_tests)
-
 -- a short stretch has the positions of the block that it begins in
 short_in : (s : Stretch) (block p : ℕ) → is_short s ≡ true → (nat_le s.from p && nat_lt p s.to) ≡ true → (s.from / BLOCK == block) ≡ (p / BLOCK == block)
 short_in s block p short has =
     let parts = both (nat_le s.from p) (nat_lt p s.to) has in
     let low : s.from ≤ p = at_most s.from p parts.0 in
-    let high : p < s.to = less_of p s.to parts.1 in
+    let high : p < s.to = ltb-true p s.to parts.1 in
     let ends : s.to ≤ BLOCK * (s.from / BLOCK) + BLOCK = at_most s.to (BLOCK * (s.from / BLOCK) + BLOCK) short in
     let same : s.from / BLOCK ≡ p / BLOCK = omega arith in
     ap (λ (n : ℕ). n == block) same
@@ -225,7 +222,7 @@ looser_outside (writes left) block of p b out = by b (nat_le (start_in of block)
   where
     by : (was low high : Bool) → nat_le (start_in of block) p ≡ low → nat_lt p (end_in of block) ≡ high → (was || (low && high)) ≡ was
     by true low high first second = refl
-    by false true true first second = absurd (out (in_part of block p (at_most (start_in of block) p first) (less_of p (end_in of block) second)))
+    by false true true first second = absurd (out (in_part of block p (at_most (start_in of block) p first) (ltb-true p (end_in of block) second)))
     by false true false first second = refl
     by false false high first second = refl
 looser_outside (flushes true) block of p b out = let test : (p / BLOCK == block) ≡ false = other_number (p / BLOCK) block out in rw test (by b)

@@ -12,9 +12,11 @@ use Rattle.cfs_core.specs.declared.inode_core.Core.{Core}
 
 -- how a request of the queue stands
 pub data Letter : Type 0 where
+  -- waiting, out, and a no-op
   waits : Letter
   goes : Letter
   idles : Letter
+  -- in doubt
   doubtful : Letter
 
 -- of a change that is waiting, out or a no-op
