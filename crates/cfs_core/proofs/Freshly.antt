@@ -34,7 +34,7 @@ file-fresh core fresh v p view = elim view [
   | inr unserved ↦ absurd (none-unserved core fresh v unserved.0)
 ]
 
-size-fresh : (core : Core) → IsFresh core → (s : ℕ) → is_size core s ≡ true → s ≡ length core.base
+pub size-fresh : (core : Core) → IsFresh core → (s : ℕ) → is_size core s ≡ true → s ≡ length core.base
 size-fresh core fresh s size =
     let own : ((s == core.size) || false) ≡ true = rw fresh.sizes at size in
     same s core.size own ∙ fresh.size

@@ -1,3 +1,4 @@
+pub mod Again
 pub mod Alive
 pub mod Apart
 pub mod Covered
@@ -7,6 +8,7 @@ pub mod Images
 pub mod Kept
 pub mod KeptRuns
 pub mod Legal
+pub mod Listing
 pub mod Logged
 pub mod LoggedCrash
 pub mod LoggedFrames
@@ -14,13 +16,18 @@ pub mod LoggedJobs
 pub mod LoggedMarks
 pub mod LoggedPush
 pub mod LoggedTags
+pub mod Marks
 pub mod Moments
+pub mod Opened
+pub mod Openings
 pub mod Order
 pub mod Recovers
 pub mod Registers
 pub mod Runs
 pub mod Served
 pub mod Sizes
+pub mod SizesFit
+pub mod Steps
 pub mod Stored
 pub mod StoredAdmit
 pub mod StoredCrash

@@ -35,7 +35,7 @@ on_stays On false can on = cc
 on_stays Unsure b can on = cc
 
 -- what stands at an index of the tracks that a crash makes sure
-sure_at : (core : Core) (image : Image) (k : ℕ) →
+pub sure_at : (core : Core) (image : Image) (k : ℕ) →
     ((k < length core.tracks) × (get_or (sure_tracks core.tracks image.gates image.marks) k blank ≡ sure_track (get_or core.tracks k blank) (get_or image.gates k false) (get_or image.marks k false)))
     ⊎ ((get_or (sure_tracks core.tracks image.gates image.marks) k blank ≡ blank) × (get_or core.tracks k blank ≡ blank))
 sure_at core image k = elim (cases_lt k (length core.tracks)) [
@@ -62,7 +62,7 @@ follows_crash core image old h = record {
 }
 
 -- a tag that is on is so in every image
-tag_stays : (core : Core) (image : Image) (k : ℕ) → is_image core image ≡ true → is_on (get_or core.tags k Off) ≡ true →
+pub tag_stays : (core : Core) (image : Image) (k : ℕ) → is_image core image ≡ true → is_on (get_or core.tags k Off) ≡ true →
     is_on (get_or (map (λ bit. flag_of bit) image.tags) k Off) ≡ true
 tag_stays core image k h on =
     rw (sure_tag image.tags k) (on_stays (get_or core.tags k Off) (get_or image.tags k false) (tag-allowed core image k h) on)

@@ -86,7 +86,7 @@ in_range test a (suc n) j h low high = elim (cases_lt a j) [
   | inr here ↦ let same : j ≡ a = omega arith in rw same (both _ _ h).0
 ]
 
-abbrev is_closed : State → Bool
+abbrev pub is_closed : State → Bool
 is_closed Waiting = false
 is_closed (Out job) = false
 is_closed Noop = false
@@ -94,7 +94,7 @@ is_closed Unserved = false
 is_closed Closed = true
 
 -- a read or a sync, by its state: it has no slot
-abbrev is_query_state : State → Bool
+abbrev pub is_query_state : State → Bool
 is_query_state s = is_unserved s || is_closed s
 
 -- what is kept of a read or a sync
@@ -199,11 +199,11 @@ ordered_with core other ordered log tracks doubt = record {
   behind = λ d k is le. rw tracks (ordered.behind d k (sym doubt ∙ is) le);
 }
 
-none_no : (o : Option Doubt) (d : Doubt) → is_none o ≡ true → o ≡ Some d → ⊥
+pub none_no : (o : Option Doubt) (d : Doubt) → is_none o ≡ true → o ≡ Some d → ⊥
 none_no None d none is = cc
 none_no (Some e) d none is = cc
 
-place_is : (core : Core) (entry : Entry) → is_next core entry ≡ true → entry.place ≡ 1 + length core.log
+pub place_is : (core : Core) (entry : Entry) → is_next core entry ≡ true → entry.place ≡ 1 + length core.log
 place_is core entry h = grind (arith, nat_tests)
 
 ordered_admit : (core : Core) (entry : Entry) (grant : ℕ) (kept : Bool) → IsOrdered core → may_admit core entry ≡ true → IsOrdered (admitted core entry grant kept)

@@ -53,7 +53,7 @@ differ a b p false true first second full other = let c = clash b a p second fir
 differ a b p false false first second full other = inl refl
 
 -- an entry that leaves the size as it is
-left_zero : (span : Span) (bytes : List ℕ) (s p : ℕ) → sized s span ≡ s → Holds span p → s ≤ p → byte_at bytes span p ≡ 0
+pub left_zero : (span : Span) (bytes : List ℕ) (s p : ℕ) → sized s span ≡ s → Holds span p → s ≤ p → byte_at bytes span p ≡ 0
 left_zero Nothing bytes s p same holds past = absurd holds
 left_zero (Range from to) bytes s p same holds past = absurd (omega arith)
 left_zero (From from) bytes s p same holds past = refl
@@ -74,14 +74,14 @@ left_long (From from) s p b same way =
 
 -- ---- live entries
 
-live-or-not : (core : Core) (k : ℕ) → IsLive core k ⊎ (IsLive core k → ⊥)
+pub live-or-not : (core : Core) (k : ℕ) → IsLive core k ⊎ (IsLive core k → ⊥)
 live-or-not core k = test (is_live (at core k).state) refl
   where
     test : (b : Bool) → is_live (at core k).state ≡ b → IsLive core k ⊎ (IsLive core k → ⊥)
     test true is = inl is
     test false is = inr (λ live. cc)
 
-both-or-not : {A B : Type 0} → A ⊎ (A → ⊥) → B ⊎ (B → ⊥) → (A × B) ⊎ ((A × B) → ⊥)
+pub both-or-not : {A B : Type 0} → A ⊎ (A → ⊥) → B ⊎ (B → ⊥) → (A × B) ⊎ ((A × B) → ⊥)
 both-or-not (inl a) (inl b) = inl (a, b)
 both-or-not (inl a) (inr out) = inr (λ h. out h.1)
 both-or-not (inr out) b = inr (λ h. out h.0)
@@ -104,7 +104,7 @@ apart-holds core apart i j p less live applied first second =
     cc
 
 -- the last entry with a position of a live one
-last-live : (core : Core) → IsKept core → (i p : ℕ) → IsLive core i → Holds (at core i).span p → (m : ℕ) × (IsLive core m × IsLast core (length core.log) p m)
+pub last-live : (core : Core) → IsKept core → (i p : ℕ) → IsLive core i → Holds (at core i).span p → (m : ℕ) × (IsLive core m × IsLast core (length core.log) p m)
 last-live core kept i p live holds =
     kept.logged.order (length core.log) i p (inl refl) (live-within core kept.logged i live) live (kept.logged.live_changes i live, holds)
 
@@ -122,7 +122,7 @@ found core image = made core (opens image) (stored image) (length core.log)
 -- ---- bytes
 
 -- the last entry with a position, if live and not applied, is open in every image
-last-opens : (core : Core) → IsKept core → (image : Image) → is_image core image ≡ true → (p m : ℕ) → IsLive core m → IsLast core (length core.log) p m →
+pub last-opens : (core : Core) → IsKept core → (image : Image) → is_image core image ≡ true → (p m : ℕ) → IsLive core m → IsLast core (length core.log) p m →
     (at core m).applied ≡ false → opens image m ≡ true
 last-opens core kept image h p m live last idle = test (is_off (at core m).mark) refl
   where

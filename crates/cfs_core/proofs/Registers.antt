@@ -72,7 +72,7 @@ unsettled (Some b) none = absurd (none (b, refl))
 pub none-settles : (o : Option Bool) → o ≡ None → ((b : Bool) × (o ≡ Some b)) → ⊥
 none-settles o none some = let is : o ≡ Some some.0 = some.1 in cc
 
-byte_written : (file : List ℕ) (bytes : List ℕ) (from p : ℕ) → from ≤ p → p < from + length bytes → get_or (put file from bytes) p 0 ≡ get_or bytes (p - from) 0
+pub byte_written : (file : List ℕ) (bytes : List ℕ) (from p : ℕ) → from ≤ p → p < from + length bytes → get_or (put file from bytes) p 0 ≡ get_or bytes (p - from) 0
 byte_written file bytes from p low high =
     let here : from + (p - from) ≡ p = omega arith in
     rw here at ((put-writes file from bytes).written (p - from) (omega arith))
@@ -227,10 +227,10 @@ change-entry core k change =
 pub change-within : (core : Core) (k : ℕ) → IsChange core k → k < length core.log
 change-within core k change = let found = change-entry core k change in slice_get_within core.log k found.0 found.1.0
 
-between-some : (from to : ℕ) → from < to → between from to ≡ Range from to
+pub between-some : (from to : ℕ) → from < to → between from to ≡ Range from to
 between-some from to less = let test : nat_lt from to ≡ true = lt-ltb from to less in rw test refl
 
-some_bytes : (n most : ℕ) → (nat_le 1 n && nat_le n most) ≡ true → 1 ≤ n
+pub some_bytes : (n most : ℕ) → (nat_le 1 n && nat_le n most) ≡ true → 1 ≤ n
 some_bytes n most h = let first : nat_le 1 n ≡ true = (both (nat_le 1 n) (nat_le n most) h).0 in grind (arith, nat_tests)
 
 pub shaped-request : (request : Request) (size : ℕ) → is_change request ≡ true → IsShaped (payload_of request) (span request size)

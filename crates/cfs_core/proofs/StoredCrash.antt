@@ -57,7 +57,7 @@ sure_tag tags k = elim (cases_lt k (length tags)) [
       rw (bit, flag) refl
 ]
 
-sure_rests : (bit : Bool) (stands byte : ℕ) → (if bit then stands else 0) ≡ byte → rests_as (flag_of bit) false stands byte ≡ true
+pub sure_rests : (bit : Bool) (stands byte : ℕ) → (if bit then stands else 0) ≡ byte → rests_as (flag_of bit) false stands byte ≡ true
 sure_rests true stands byte same = same_test stands byte same
 sure_rests false stands byte same = same_test byte 0 (sym same)
 

@@ -300,7 +300,7 @@ back_stored core place t size sizes kept back = record {
           | inr old ↦ kept.stored_.applied_size j s live was old
         ]
 
-any_more : (s : ℕ) (xs : List ℕ) (x : ℕ) → list_any (λ y. s == y) (xs ++ x ∷ []) ≡ true → (s ≡ x) ⊎ (list_any (λ y. s == y) xs ≡ true)
+pub any_more : (s : ℕ) (xs : List ℕ) (x : ℕ) → list_any (λ y. s == y) (xs ++ x ∷ []) ≡ true → (s ≡ x) ⊎ (list_any (λ y. s == y) xs ≡ true)
 any_more s [] x h = elim (or_cases (s == x) false h) [ inl same ↦ inl (same_number s x same) | inr none ↦ cc ]
 any_more s (y ∷ ys) x h = elim (or_cases (s == y) (list_any (λ z. s == z) (ys ++ x ∷ [])) h) [
   | inl same ↦ inr (rw same refl)

@@ -93,7 +93,7 @@ part_holds Nothing block p low high = absurd (omega arith)
 part_holds (Range from to) block p low high = (omega arith, omega arith)
 part_holds (From from) block p low high = omega arith
 
-piece_fits : (bytes : List ℕ) (s : Span) (block : ℕ) → length (piece_in bytes s block) ≤ end_in s block - start_in s block
+pub piece_fits : (bytes : List ℕ) (s : Span) (block : ℕ) → length (piece_in bytes s block) ≤ end_in s block - start_in s block
 piece_fits bytes Nothing block = omega arith
 piece_fits bytes (Range from to) block = omega (arith, length-take (min to (BLOCK * block + BLOCK) - max from (BLOCK * block)) (drop (max from (BLOCK * block) - from) bytes))
 piece_fits bytes (From from) block = omega (arith, length-replicate {A = ℕ} (BLOCK * block + BLOCK - max from (BLOCK * block)) 0)

@@ -7,4 +7,8 @@ pub mod May
 pub mod After
 pub mod Within
 pub mod Run
+pub mod Opened
+pub mod Marks
+pub mod Listing
+pub mod Steps
 pub mod Laws
