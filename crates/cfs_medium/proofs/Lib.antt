@@ -1,0 +1,6 @@
+pub mod Blocks
+pub mod Has
+pub mod Others
+pub mod Recovered
+pub mod Slots
+pub mod Sorted
