@@ -1,4 +1,5 @@
 pub mod Blocks
+pub mod Empty
 pub mod Has
 pub mod Others
 pub mod Recovered

@@ -1,18 +1,18 @@
 -- What a store that depicts an image recovers, and what is no matter to an inode.
-use Rattle.std.specs.Prelude.{◌≡◌, ◌≢◌, ℕ, ◌<◌, true, false, List, [], ◌++◌, map, get_or, set}
+use Rattle.std.specs.Prelude.{◌≡◌, ◌≢◌, ℕ, ◌<◌, true, false, None, List, [], ◌++◌, map, get_or, set}
 use Rattle.cfs_file.specs.Log.{file_of}
 use Rattle.cfs_core.specs.declared.block.TheConstants.{BLOCKS}
 use Rattle.cfs_core.specs.declared.event.Event.{Event}
 use Rattle.cfs_core.specs.declared.image.Image.{Image}
 use Rattle.cfs_core.specs.declared.inode_core.Core.{Core}
-use Rattle.cfs_core.specs.Fresh.{IsFresh}
+use Rattle.cfs_core.specs.Fresh.{IsEmpty, IsFresh}
 use Rattle.cfs_core.specs.Good.{Rises}
 use Rattle.cfs_core.specs.Medium.{in_doubt, is_image, live_entries, recovered, stored}
 use Rattle.cfs_core.specs.Run.{IsRun, after_all}
 use Rattle.cfs_slot.specs.Words.{is_live}
 use Rattle.cfs_block.specs.BlockImages.{Content}
 use Rattle.cfs_medium.specs.Store.{Store, live_in, recovered_file, stored_file, tag_of}
-use Rattle.cfs_medium.specs.Depicts.{Depicts, content_at}
+use Rattle.cfs_medium.specs.Depicts.{Depicts, content_at, entry_at}
 
 -- A store that depicts an image stores the file that the image stores. Where the gates of the image's live
 -- entries rise, it recovers the file that the image recovers.
@@ -51,3 +51,10 @@ BlocksOfOthersStay =
 abbrev pub TagsAreApart : Type 0
 TagsAreApart =
     (ino : ℕ) → IsOfOthers ino 0 × ((other block : ℕ) → other ≢ ino → block < BLOCKS → IsOfOthers ino (tag_of other block))
+
+-- A store whose size word is 0, with no block and no live slot of the inode, depicts every image of the empty core.
+abbrev pub EmptyStoresDepict : Type 0
+EmptyStoresDepict =
+    (ino : ℕ) (store : Store) (core : Core) (image : Image) → IsEmpty core → is_image core image ≡ true → store.size ≡ 0 →
+    ((at : ℕ) → entry_at ino store.slots at ≡ None) → ((at : ℕ) → IsOfOthers ino (content_at store.blocks at).tag) →
+    Depicts ino store core image

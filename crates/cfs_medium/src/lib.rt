@@ -5,7 +5,7 @@
 //! and their contracts hold of all stores.
 #![tactic(auto)]
 
-ghost use Rattle.cfs_medium.specs.Laws.{BlocksOfOthersStay, DepictedStoresRecover, RunsAreRecovered, SlotsOfOthersStay, TagsAreApart};
+ghost use Rattle.cfs_medium.specs.Laws.{BlocksOfOthersStay, DepictedStoresRecover, EmptyStoresDepict, RunsAreRecovered, SlotsOfOthersStay, TagsAreApart};
 
 /// A store that depicts an image stores and recovers what the image does.
 pub fn depicted_stores_recover()
@@ -31,4 +31,9 @@ pub fn blocks_of_others_stay()
 /// Tags of different inodes differ, and no inode has the tag of a free block.
 pub fn tags_are_apart()
     ensures { TagsAreApart }
+{}
+
+/// A store that has nothing of an inode depicts the core of an empty file.
+pub fn empty_stores_depict()
+    ensures { EmptyStoresDepict }
 {}
