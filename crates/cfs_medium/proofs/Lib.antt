@@ -1,6 +1,7 @@
 pub mod Blocks
 pub mod Empty
 pub mod Has
+pub mod Insertion
 pub mod Others
 pub mod Recovered
 pub mod Slots

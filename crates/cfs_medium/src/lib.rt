@@ -1,11 +1,16 @@
 //! What the words and bytes of a store say of one inode.
 //!
 //! `specs/Store.antt` says which file a store keeps for an inode, stored and recovered;
-//! `specs/Depicts.antt` when a store is an image of a core. The functions are laws: they do nothing,
-//! and their contracts hold of all stores.
+//! `specs/Depicts.antt` when a store is an image of a core. `recover` is the plain and slow program of
+//! these definitions; the other functions are laws: they do nothing, and their contracts hold of all
+//! stores.
 #![tactic(auto)]
 
+mod recovery;
+
 ghost use Rattle.cfs_medium.specs.Laws.{BlocksOfOthersStay, DepictedStoresRecover, EmptyStoresDepict, RunsAreRecovered, SlotsOfOthersStay, TagsAreApart};
+
+pub use recovery::{BlockFound, recover};
 
 /// A store that depicts an image stores and recovers what the image does.
 pub fn depicted_stores_recover()
@@ -37,3 +42,6 @@ pub fn tags_are_apart()
 pub fn empty_stores_depict()
     ensures { EmptyStoresDepict }
 {}
+
+#[cfg(test)]
+mod tests;
