@@ -1,0 +1,8 @@
+pub mod Blocks
+pub mod Empty
+pub mod Has
+pub mod Insertion
+pub mod Others
+pub mod Recovered
+pub mod Slots
+pub mod Sorted

@@ -1,0 +1,60 @@
+-- What a store that depicts an image recovers, and what is no matter to an inode.
+use Rattle.std.specs.Prelude.{◌≡◌, ◌≢◌, ℕ, ◌<◌, true, false, None, List, [], ◌++◌, map, get_or, set}
+use Rattle.cfs_file.specs.Log.{file_of}
+use Rattle.cfs_core.specs.declared.block.TheConstants.{BLOCKS}
+use Rattle.cfs_core.specs.declared.event.Event.{Event}
+use Rattle.cfs_core.specs.declared.image.Image.{Image}
+use Rattle.cfs_core.specs.declared.inode_core.Core.{Core}
+use Rattle.cfs_core.specs.Fresh.{IsEmpty, IsFresh}
+use Rattle.cfs_core.specs.Good.{Rises}
+use Rattle.cfs_core.specs.Medium.{in_doubt, is_image, live_entries, recovered, stored}
+use Rattle.cfs_core.specs.Run.{IsRun, after_all}
+use Rattle.cfs_slot.specs.Words.{is_live}
+use Rattle.cfs_block.specs.BlockImages.{Content}
+use Rattle.cfs_medium.specs.Store.{Store, live_in, recovered_file, stored_file, tag_of}
+use Rattle.cfs_medium.specs.Depicts.{Depicts, content_at, entry_at}
+
+-- A store that depicts an image stores the file that the image stores. Where the gates of the image's live
+-- entries rise, it recovers the file that the image recovers.
+abbrev pub DepictedStoresRecover : Type 0
+DepictedStoresRecover =
+    (ino : ℕ) (store : Store) (core : Core) (image : Image) → Depicts ino store core image →
+    (stored_file ino store ≡ stored image)
+    × (Rises 0 (map (λ e. e.place) (live_entries core image)) → recovered_file ino store ≡ recovered core image)
+
+-- After every run, a store that depicts an image of the core recovers the file after the log, and then the
+-- request in doubt exactly where its gate is open.
+abbrev pub RunsAreRecovered : Type 0
+RunsAreRecovered =
+    (core : Core) (events : List Event) (image : Image) (ino : ℕ) (store : Store) → IsFresh core → IsRun core events →
+    is_image (after_all core events) image ≡ true → Depicts ino store (after_all core events) image →
+    recovered_file ino store ≡
+    file_of (after_all core events).base ((after_all core events).log ++ in_doubt (after_all core events).doubt image.doubt)
+
+-- A slot that is no live entry of the inode may come to hold any other words that are none.
+abbrev pub SlotsOfOthersStay : Type 0
+SlotsOfOthersStay =
+    (ino at : ℕ) (slots : List (List ℕ)) (words : List ℕ) → is_live ino (get_or slots at []) ≡ false → is_live ino words ≡ false →
+    live_in ino (set slots at words) ≡ live_in ino slots
+
+-- the tag is that of no file block of the inode
+abbrev pub IsOfOthers : ℕ → ℕ → Type 0
+IsOfOthers ino tag = (block : ℕ) → block < BLOCKS → tag ≢ tag_of ino block
+
+-- A block that is not the inode's may come to hold anything that is not the inode's.
+abbrev pub BlocksOfOthersStay : Type 0
+BlocksOfOthersStay =
+    (ino at : ℕ) (store : Store) (content : Content) → IsOfOthers ino (content_at store.blocks at).tag → IsOfOthers ino content.tag →
+    stored_file ino (record store { blocks = set store.blocks at content }) ≡ stored_file ino store
+
+-- A block that is tagged for another inode, or free, is not the inode's.
+abbrev pub TagsAreApart : Type 0
+TagsAreApart =
+    (ino : ℕ) → IsOfOthers ino 0 × ((other block : ℕ) → other ≢ ino → block < BLOCKS → IsOfOthers ino (tag_of other block))
+
+-- A store whose size word is 0, with no block and no live slot of the inode, depicts every image of the empty core.
+abbrev pub EmptyStoresDepict : Type 0
+EmptyStoresDepict =
+    (ino : ℕ) (store : Store) (core : Core) (image : Image) → IsEmpty core → is_image core image ≡ true → store.size ≡ 0 →
+    ((at : ℕ) → entry_at ino store.slots at ≡ None) → ((at : ℕ) → IsOfOthers ino (content_at store.blocks at).tag) →
+    Depicts ino store core image

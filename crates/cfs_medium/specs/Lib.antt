@@ -1,0 +1,4 @@
+pub mod Store
+pub mod Depicts
+pub mod Found
+pub mod Laws

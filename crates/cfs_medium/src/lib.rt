@@ -1,0 +1,47 @@
+//! What the words and bytes of a store say of one inode.
+//!
+//! `specs/Store.antt` says which file a store keeps for an inode, stored and recovered;
+//! `specs/Depicts.antt` when a store is an image of a core. `recover` is the plain and slow program of
+//! these definitions; the other functions are laws: they do nothing, and their contracts hold of all
+//! stores.
+#![tactic(auto)]
+
+mod recovery;
+
+ghost use Rattle.cfs_medium.specs.Laws.{BlocksOfOthersStay, DepictedStoresRecover, EmptyStoresDepict, RunsAreRecovered, SlotsOfOthersStay, TagsAreApart};
+
+pub use recovery::{BlockFound, recover};
+
+/// A store that depicts an image stores and recovers what the image does.
+pub fn depicted_stores_recover()
+    ensures { DepictedStoresRecover }
+{}
+
+/// After every run, a store that depicts an image of the core recovers the file after the log, and then
+/// the request in doubt exactly where its gate is open.
+pub fn runs_are_recovered()
+    ensures { RunsAreRecovered }
+{}
+
+/// What happens in the slots of other inodes changes no live entry of this one.
+pub fn slots_of_others_stay()
+    ensures { SlotsOfOthersStay }
+{}
+
+/// What happens in the blocks of other inodes changes no byte of this one's stored file.
+pub fn blocks_of_others_stay()
+    ensures { BlocksOfOthersStay }
+{}
+
+/// Tags of different inodes differ, and no inode has the tag of a free block.
+pub fn tags_are_apart()
+    ensures { TagsAreApart }
+{}
+
+/// A store that has nothing of an inode depicts the core of an empty file.
+pub fn empty_stores_depict()
+    ensures { EmptyStoresDepict }
+{}
+
+#[cfg(test)]
+mod tests;
