@@ -9,9 +9,10 @@ use Rattle.byteorder.specs.Numbers.{length-bytes_low_first, little_number-reads_
 use Rattle.cfs_block.specs.BlockImages.{Content}
 use Rattle.cfs_image.specs.declared.layout.TheConstants.{NAME, VERSION}
 use Rattle.cfs_image.specs.Layout.{block_at, image_len, queues_of, region_at, region_count, region_words}
-use Rattle.cfs_image.specs.Image.{block_bytes, header_of, image_of, word_at, words_bytes}
+use Rattle.cfs_image.specs.Image.{IsWord, block_bytes, header_of, image_of, word_at, words_bytes}
 use Rattle.cfs_image.specs.Checks.{Check, check, checks_of, damage_of, due_len, IsSound}
-use Rattle.cfs_image.specs.Laws.{AreHeld, EachStands, IsWord}
+use Rattle.cfs_image.specs.Laws.{EachStands}
+use Rattle.cfs_image.specs.Held.{AreHeld}
 use Rattle.cfs_image.proofs.Layouts.{region_at-next}
 use Rattle.cfs_image.proofs.WordBytes.{length-words_bytes}
 
@@ -58,7 +59,7 @@ stands f (x ∷ xs) before after start size h (suc k) d l =
     ∙ stands f xs (before ++ f x) after (λ n. start (n + 1)) (λ n. size (n + 1)) (behind f x xs before start size h) k d (omega arith)
 
 -- four words that stand at the start are read back
-four_read : (a b c d : ℕ) (rest : List ℕ) → IsWord a → IsWord b → IsWord c → IsWord d
+pub four_read : (a b c d : ℕ) (rest : List ℕ) → IsWord a → IsWord b → IsWord c → IsWord d
     → (word_at (words_bytes (a ∷ b ∷ c ∷ d ∷ []) ++ rest) 0 ≡ a) × (word_at (words_bytes (a ∷ b ∷ c ∷ d ∷ []) ++ rest) 8 ≡ b)
     × (word_at (words_bytes (a ∷ b ∷ c ∷ d ∷ []) ++ rest) 16 ≡ c) × (word_at (words_bytes (a ∷ b ∷ c ∷ d ∷ []) ++ rest) 24 ≡ d)
 four_read a b c d rest in_a in_b in_c in_d = (
@@ -136,7 +137,7 @@ holds : (check : Check) (rest : List Check) → check.holds ≡ true → damage_
 holds check rest is none = rw is none
 
 -- bytes with these words at their start and of this length pass all checks
-sound_of : (bytes : List ℕ) (blocks queues : ℕ) → word_at bytes 0 ≡ NAME → word_at bytes 8 ≡ VERSION → word_at bytes 16 ≡ blocks → word_at bytes 24 ≡ queues
+pub sound_of : (bytes : List ℕ) (blocks queues : ℕ) → word_at bytes 0 ≡ NAME → word_at bytes 8 ≡ VERSION → word_at bytes 16 ≡ blocks → word_at bytes 24 ≡ queues
     → length bytes ≡ image_len blocks queues → 16 ≤ blocks → blocks ≤ 16384 → 1 ≤ queues → queues ≤ 64 → IsSound bytes
 sound_of bytes blocks queues name version in_blocks in_queues size fewest most some many =
     let cs : List Check = checks_of bytes in

@@ -1,25 +1,12 @@
 -- What holds of every image of a store.
-use Rattle.std.specs.Prelude.{ℕ, ◌*◌, ◌^◌, ◌<◌, ◌≡◌, All, List, [], length, map, take, drop, replicate}
-use Rattle.std.specs.List.{range_with_len}
+use Rattle.std.specs.Prelude.{ℕ, ◌*◌, ◌<◌, ◌≡◌, List, [], length, take, drop}
 use Rattle.std.proofs.Math.ListN.{get_or}
 use Rattle.cfs_block.specs.BlockImages.{Content}
 use Rattle.cfs_image.specs.declared.layout.TheConstants.{NAME, VERSION}
 use Rattle.cfs_image.specs.Layout.{block_at, image_len, queues_of, region_at, region_words}
 use Rattle.cfs_image.specs.Image.{block_bytes, image_of, word_at, words_bytes}
-use Rattle.cfs_image.specs.Store.{IsSized}
+use Rattle.cfs_image.specs.Held.{AreHeld}
 use Rattle.cfs_image.specs.Checks.{IsSound}
-
--- the number is that of a 64-bit word
-abbrev pub IsWord : ℕ → Type 0
-IsWord word = word < 2 ^ 64
-
--- What a store can hold: words of 64 bits, and as many words and bytes as its regions and blocks have.
-pub record AreHeld (regions : List (List ℕ)) (blocks : List Content) : Type 0 where
-  pub sized : IsSized (length regions) (length blocks)
-  pub sizes : map (λ words. length words) regions ≡ map region_words (range_with_len 0 (length regions))
-  pub full : map (λ block. length block.bytes) blocks ≡ replicate (length blocks) 4096
-  pub words : All (λ words. All IsWord words) regions
-  pub tags : All (λ block. IsWord block.tag) blocks
 
 -- Each object stands in its range of an image, and the header and these ranges are all that there is.
 pub record EachStands (regions : List (List ℕ)) (blocks : List Content) (image : List ℕ) : Type 0 where
@@ -45,3 +32,8 @@ abbrev pub ImagesTell : Type 0
 ImagesTell =
     (regions others : List (List ℕ)) (blocks other_blocks : List Content) → AreHeld regions blocks → AreHeld others other_blocks →
     image_of regions blocks ≡ image_of others other_blocks → (regions ≡ others) × (blocks ≡ other_blocks)
+
+-- The words and bytes are those of each store that has this image.
+abbrev pub IsToldBy : List ℕ → List (List ℕ) → List Content → Type 0
+IsToldBy image regions blocks =
+    (others : List (List ℕ)) (other_blocks : List Content) → AreHeld others other_blocks → image_of others other_blocks ≡ image → (others ≡ regions) × (other_blocks ≡ blocks)

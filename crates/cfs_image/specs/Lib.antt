@@ -1,6 +1,7 @@
 pub mod Checks
 pub mod Crash
 pub mod Fresh
+pub mod Held
 pub mod Image
 pub mod Laws
 pub mod Layout

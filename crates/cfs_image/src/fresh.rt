@@ -1,5 +1,6 @@
 //! The image of a new store.
 ghost use Rattle.std.specs.Prelude.{◌≡◌, ◌≤◌, IfOk};
+ghost use Rattle.cfs_image.specs.Checks.{IsSound};
 ghost use Rattle.cfs_image.specs.Fresh.{new_image_of};
 
 use crate::layout::{
@@ -19,7 +20,8 @@ pub fn new_image(alloc: Global, blocks: u32, queues: u32) -> Result<Bytes, NoMem
     requires most_blocks { blocks ≤ MOST_BLOCKS }
     requires fewest_queues { FEWEST_QUEUES ≤ queues }
     requires most_queues { queues ≤ MOST_QUEUES }
-    ensures { IfOk result (λ image. image ≡ new_image_of blocks queues) }
+    ensures image { IfOk result (λ image. image ≡ new_image_of blocks queues) }
+    ensures sound { IfOk result (λ image. IsSound image) }
 {
     let len = image_len(blocks, queues);
     let mut image = Vec::with_capacity(alloc, len)?;
