@@ -21,3 +21,6 @@ pub use medium::Medium;
 pub use read::read_image;
 pub use refusal::ImageRefusal;
 pub use write::write_image;
+
+#[cfg(test)]
+mod tests;
