@@ -83,7 +83,10 @@ fn read_blocks(
     Ok(blocks)
 }
 
-/// The store that an image holds. It costs one pass over the bytes.
+/// The store that an image holds, in one pass over its bytes.
+///
+/// `Damaged` names the first check of its length and header that fails, and comes where one does (own). Each object is new: it keeps two
+/// copies of what it holds, and has no other image.
 pub fn read_image(alloc: Global, bytes: &[u8]) -> Result<Medium<MemRegion, MemBlock>, ImageRefusal>
     ensures sound { OnOk result (IsSound bytes.now) }
     ensures image { IfOk result (λ medium. image_of (words_in medium.regions.items) (contents_in medium.blocks.items) ≡ bytes.now) }

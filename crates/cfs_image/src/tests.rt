@@ -1,6 +1,7 @@
 use crate::crash::{crash_blocks, crash_regions};
 use crate::{
-    ImageRefusal, NAME, image_len, new_image, read_image, region_at, region_words, write_image,
+    ImageRefusal, NAME, image_len, new_image, range_of, read_image, region_at, region_words,
+    write_image,
 };
 use byteorder::{ByteOrder, LittleEndian};
 use cfs_block::{Block, MemBlock};
@@ -73,6 +74,15 @@ fn devices_stand_in_order(rt: HostRuntime) {
             (at, words),
             "device {device}"
         );
+    }
+    for (device, range) in [
+        (0, (32, 8)),
+        (322, (58_928, 8)),
+        (338, (121_096, 4144)),
+        (339, (125_240, 4104)),
+        (354, (186_800, 4104)),
+    ] {
+        assert_eq!(rt; range_of(1, device), range, "device {device}");
     }
     assert_eq!(rt; image_len(16, 1), 190_904);
     assert_eq!(rt; image_len(16_384, 64), 71_542_328);

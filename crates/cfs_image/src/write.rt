@@ -47,8 +47,7 @@ fn push_blocks(image: &mut Vec<u8>, blocks: &[MemBlock]) -> Result<(), NoMemory>
     Ok(())
 }
 
-/// The image of what a store holds now: its header, the words of its regions and the tags and bytes of its blocks. It costs one pass over
-/// them.
+/// The image of what a store holds now, in one pass over it: the header, the words of its regions, the tags and bytes of its blocks (own).
 pub fn write_image(alloc: Global, medium: &Medium<MemRegion, MemBlock>) -> Result<Bytes, NoMemory>
     ensures image { IfOk result (λ image. image ≡ image_of (words_in medium.now.regions.items) (contents_in medium.now.blocks.items)) }
     ensures held { OnOk result (AreHeld (words_in medium.now.regions.items) (contents_in medium.now.blocks.items)) }
