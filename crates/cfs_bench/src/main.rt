@@ -1,6 +1,9 @@
-//! A workload to time: it stages, opens and closes as many requests of 4096 bytes as its argument
-//! says, one after another on one slot in memory, and prints how many it was.
+//! Workloads to time. `cfs_bench N` stages, opens and closes N requests of 4096 bytes, one after another on
+//! one slot in memory, and prints how many it was. `cfs_bench image BLOCKS QUEUES N` makes an image, and
+//! reads and writes it N times.
 #![tactic(auto)]
+
+mod image;
 
 ghost use Rattle.std.specs.Prelude.{◌<◌};
 ghost use Rattle.cfs_slot.specs.Staging.{IsStageable};
@@ -17,9 +20,16 @@ const FIRST_SLOT: u32 = 323;
 
 fn main(rt: HostRuntime) -> anyhow::Result<()> {
     let alloc = rt.alloc();
-    let word = env::args(&rt)?
-        .nth(1)
-        .context("the number of requests is missing")?;
+    let mut words = env::args(&rt)?;
+    let word = words.nth(1).context("the number of requests is missing")?;
+    if word.as_str() == "image" {
+        let blocks = number(words.next())?;
+        let queues = number(words.next())?;
+        let count = number(words.next())?;
+        let len = image::read_and_write(alloc, blocks, queues, u64::from(count))?;
+        println!(rt; "{count} images of {len} bytes")?;
+        return Ok(());
+    }
     let count = word.parse::<u64>().context("the number of requests")?;
     let payload = vec![in alloc; b'x'; 4096]?;
     let request = Request::Write {
@@ -32,6 +42,12 @@ fn main(rt: HostRuntime) -> anyhow::Result<()> {
     admit_all(empty_slot(alloc)?, alloc, &request, count).map_err(|_| anyhow!("a device fault"))?;
     println!(rt; "{count} requests")?;
     Ok(())
+}
+
+/// The number that a word of the command line spells.
+fn number(word: Option<String>) -> anyhow::Result<u32> {
+    let word = word.context("a number is missing")?;
+    Ok(word.parse::<u32>().context("a number")?)
 }
 
 fn empty_slot(alloc: Global) -> Result<Slot<MemRegion>, AllocError> {

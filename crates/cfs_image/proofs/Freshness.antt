@@ -1,5 +1,5 @@
 -- Zeros as they stand in an image.
-use Rattle.std.proofs.Common.{ℕ, zero, suc, ◌+◌, ◌-◌, ◌*◌, ◌≤◌, ◌≡◌, ◌∙◌, ◌==◌, Bool, true, false, if◌then◌else◌, List, [], ◌∷◌, ◌++◌, length, take, map, refl, sym, ap, arith, append_assoc}
+use Rattle.std.proofs.Common.{ℕ, zero, suc, ◌+◌, ◌-◌, ◌*◌, ◌≤◌, ◌≡◌, ◌∙◌, ◌==◌, Bool, true, false, if◌then◌else◌, List, [], ◌∷◌, ◌++◌, length, take, map, refl, sym, ap, subst, arith, append_assoc}
 use Rattle.std.proofs.Math.ListN.{replicate}
 use Rattle.std.proofs.lemmas.Bool.Decides.{nat_tests}
 use Rattle.std.proofs.lemmas.List.{length-map, length-replicate, replicate-append-replicate, take_all}
@@ -10,6 +10,9 @@ use Rattle.byteorder.specs.Endian.{little_bytes}
 use Rattle.cfs_image.specs.Layout.{block_at, image_len, queues_of, region_at, region_words, region_count}
 use Rattle.cfs_image.specs.Image.{words_bytes, block_bytes, header_of}
 use Rattle.cfs_image.specs.Fresh.{new_table, new_words, new_content, new_image_of}
+use Rattle.cfs_image.specs.Checks.{IsSound}
+use Rattle.cfs_image.specs.declared.layout.TheConstants.{NAME, VERSION}
+use Rattle.cfs_image.proofs.Standing.{four_read, sound_of}
 use Rattle.cfs_image.proofs.Layouts.{region_at-next}
 
 -- zero words are zero bytes
@@ -123,3 +126,15 @@ made blocks queues len count empty first second third last none head selector ta
     filled ∙ ap (λ bs. bs ++ replicate (len - count) 0) (whole ∙ front)
     ∙ ap (λ (n : ℕ). ((words_bytes (header_of blocks queues) ++ words_bytes (0 ∷ [])) ++ words_bytes new_table) ++ replicate n 0) left
     ∙ image_new 1 blocks queues refl
+
+-- the image of a new store passes all checks
+pub sound_new : (blocks queues : ℕ) → 16 ≤ blocks → blocks ≤ 16384 → 1 ≤ queues → queues ≤ 64 → IsSound (new_image_of blocks queues)
+sound_new blocks queues fewest most some many =
+    let head : List ℕ = words_bytes (header_of blocks queues) in
+    let rest : List ℕ = words_bytes (0 ∷ []) ++ (words_bytes new_table ++ replicate (image_len blocks queues - 80) 0) in
+    let whole : new_image_of blocks queues ≡ head ++ rest =
+    sym (image_new 1 blocks queues refl) ∙ append_assoc (head ++ words_bytes (0 ∷ [])) (words_bytes new_table) (replicate (image_len blocks queues - 80) 0)
+    ∙ append_assoc head (words_bytes (0 ∷ [])) (words_bytes new_table ++ replicate (image_len blocks queues - 80) 0) in
+    let size : length (head ++ rest) ≡ image_len blocks queues = omega (arith, length-replicate {A = ℕ} (image_len blocks queues - 80) 0) in
+    let words = four_read NAME VERSION blocks queues rest (omega arith) (omega arith) (omega arith) (omega arith) in
+    subst (λ bytes. IsSound bytes) (sym whole) (sound_of (head ++ rest) blocks queues words.0 words.1 words.2 words.3 size fewest most some many)

@@ -1,6 +1,9 @@
 pub mod Crashing
 pub mod Freshness
 pub mod Headers
+pub mod HeldLemmas
 pub mod Layouts
 pub mod Readings
+pub mod Standing
 pub mod WordBytes
+pub mod Writings

@@ -1,5 +1,5 @@
 -- One region or block more of an image, and all of it.
-use Rattle.std.proofs.Common.{ℕ, ◌+◌, ◌-◌, ◌*◌, ◌<◌, ◌≤◌, ◌≡◌, ◌∙◌, List, [], ◌∷◌, ◌++◌, length, take, drop, map, get_or, refl, sym, ap, arith}
+use Rattle.std.proofs.Common.{All, subst, ℕ, ◌+◌, ◌-◌, ◌*◌, ◌<◌, ◌≤◌, ◌≡◌, ◌∙◌, List, [], ◌∷◌, ◌++◌, length, take, drop, map, get_or, refl, sym, ap, arith}
 use Rattle.std.proofs.lemmas.List.{append-nil, drop-drop, length-drop, length-map, map_push, take-append-drop, take_all}
 use Rattle.std.proofs.lemmas.List.Concat.{flat_map-append}
 use Rattle.std.proofs.lemmas.List.Elements.{All-push}
@@ -10,7 +10,7 @@ use Rattle.cfs_block.specs.BlockImages.{content_of}
 use Rattle.cfs_block.specs.MemoryBlocks.{seen_of, number_of}
 use Rattle.cfs_block.specs.declared.mem_block.MemBlock.{MemBlock}
 use Rattle.cfs_image.specs.Layout.{queues_of, region_at, region_count, region_words, block_at}
-use Rattle.cfs_image.specs.Image.{word_at, words_bytes, block_bytes, header_of, image_of, words_in, contents_in, IsNewRegion, IsNewBlock}
+use Rattle.cfs_image.specs.Image.{IsWord, word_at, words_bytes, block_bytes, header_of, image_of, words_in, contents_in, IsNewRegion, IsNewBlock}
 use Rattle.cfs_image.specs.Checks.{IsSound}
 use Rattle.cfs_image.specs.Store.{IsSized, IsStore}
 use Rattle.cfs_image.specs.declared.layout.TheConstants.{VERSION}
@@ -20,18 +20,23 @@ use Rattle.cfs_image.proofs.Headers.{IsHeaded, headed, four_words}
 use Rattle.cfs_image.proofs.Layouts.{piece_more, range_more, region_at-next, region_at-first}
 
 -- a map, and all its pieces, over one element more
-flat_push : {X Y : Type 0} (f : Y → List ℕ) (g : X → Y) (xs : List X) (x : X) → flat_map f (map g (xs ++ x ∷ [])) ≡ flat_map f (map g xs) ++ f (g x)
+pub flat_push : {X Y : Type 0} (f : Y → List ℕ) (g : X → Y) (xs : List X) (x : X) → flat_map f (map g (xs ++ x ∷ [])) ≡ flat_map f (map g xs) ++ f (g x)
 flat_push f g xs x =
     ap (λ ys. flat_map f ys) (map_push g xs x) ∙ flat_map-append f (map g xs) (g x ∷ []) ∙ ap (λ ys. flat_map f (map g xs) ++ ys) (append-nil (f (g x)))
 
 twice_push : {X Y Z : Type 0} (f : Y → Z) (g : X → Y) (xs : List X) (x : X) → map f (map g (xs ++ x ∷ [])) ≡ map f (map g xs) ++ f (g x) ∷ []
 twice_push f g xs x = ap (λ ys. map f ys) (map_push g xs x) ∙ map_push f (map g xs) (g x)
 
+-- a fact of all that is held, over one element more
+pub fit_push : {X Y : Type 0} (g : X → Y) (P : Y → Type 0) (xs : List X) (x : X) → All P (map g xs) → P (g x) → All P (map g (xs ++ x ∷ []))
+fit_push g P xs x all here = subst (λ ys. All P ys) (sym (map_push g xs x)) (All-push P (map g xs) (g x) all here)
+
 pub regions_more : (bytes : List ℕ) (count : ℕ) (regions : List MemoryRegion) (region : MemoryRegion) → AreRegionsOf bytes count regions
     → words_bytes (words_of region.seen) ≡ take (8 * region_words count) (drop (region_at count) bytes)
-    → length (words_of region.seen) ≡ region_words count → region.seen.device ≡ count → IsNewRegion region
+    → length (words_of region.seen) ≡ region_words count → region.seen.device ≡ count → All IsWord (words_of region.seen) → IsNewRegion region
     → AreRegionsOf bytes (count + 1) (regions ++ region ∷ [])
-regions_more bytes count regions region all words size device new = record {
+regions_more bytes count regions region all words size device fit new = record {
+  fit = fit_push (λ r. words_of r.seen) (λ ws. All IsWord ws) regions region all.fit fit;
   image =
       flat_push words_bytes (λ r. words_of r.seen) regions region
       ∙ ap (λ bs. bs ++ words_bytes (words_of region.seen)) all.image
@@ -54,9 +59,10 @@ regions_more bytes count regions region all words size device new = record {
 
 pub blocks_more : (bytes : List ℕ) (queues count : ℕ) (blocks : List MemBlock) (block : MemBlock) → AreBlocksOf bytes queues count blocks
     → block_bytes (content_of (seen_of block)) ≡ take 4104 (drop (block_at queues count) bytes)
-    → (seen_of block).device ≡ region_count queues + count → number_of block ≡ count → IsNewBlock block
+    → (seen_of block).device ≡ region_count queues + count → number_of block ≡ count → IsWord (content_of (seen_of block)).tag → IsNewBlock block
     → AreBlocksOf bytes queues (count + 1) (blocks ++ block ∷ [])
-blocks_more bytes queues count blocks block all content device number new = record {
+blocks_more bytes queues count blocks block all content device number fit new = record {
+  fit = fit_push (λ b. content_of (seen_of b)) (λ content. IsWord content.tag) blocks block all.fit fit;
   image =
       flat_push block_bytes (λ b. content_of (seen_of b)) blocks block
       ∙ ap (λ bs. bs ++ block_bytes (content_of (seen_of block))) all.image
@@ -98,6 +104,15 @@ pub length-blocks_read : (bytes : List ℕ) (queues count : ℕ) (blocks : List 
 length-blocks_read bytes queues count blocks all =
     omega (arith, ap (λ (ks : List ℕ). length ks) all.own_numbers, length-map blocks number_of, length-range_with_len 0 count)
 
+-- the same by the numbers in the header
+settled : (bytes : List ℕ) (regions : List MemoryRegion) (blocks : List MemBlock) (count queues many : ℕ) → count ≡ region_count queues → queues ≡ word_at bytes 24 → many ≡ word_at bytes 16
+    → AreRegionsOf bytes count regions → AreBlocksOf bytes queues many blocks
+    → AreRegionsOf bytes (region_count (word_at bytes 24)) regions × AreBlocksOf bytes (word_at bytes 24) (word_at bytes 16) blocks
+settled bytes regions blocks count queues many is in_queues in_blocks of_regions of_blocks = (
+  subst (λ (n : ℕ). AreRegionsOf bytes n regions) (is ∙ ap (λ (n : ℕ). region_count n) in_queues) of_regions,
+  subst (λ (n : ℕ). AreBlocksOf bytes (word_at bytes 24) n blocks) in_blocks (subst (λ (n : ℕ). AreBlocksOf bytes n many blocks) in_queues of_blocks),
+)
+
 -- so many regions and blocks are a store
 sized_as : (regions blocks queues many : ℕ) → regions ≡ region_count queues → blocks ≡ many → 1 ≤ queues → queues ≤ 64 → 16 ≤ many → many ≤ 16384
     → IsSized regions blocks
@@ -112,7 +127,7 @@ sized_as regions blocks queues many count same some most fewest greatest =
     }
 
 -- what was read is a store
-pub store_read : (bytes : List ℕ) (regions : List MemoryRegion) (blocks : List MemBlock) → IsSound bytes
+store_read : (bytes : List ℕ) (regions : List MemoryRegion) (blocks : List MemBlock) → IsSound bytes
     → AreRegionsOf bytes (region_count (word_at bytes 24)) regions → AreBlocksOf bytes (word_at bytes 24) (word_at bytes 16) blocks
     → IsStore (map (λ region. region.seen) regions) (map seen_of blocks) (map number_of blocks)
 store_read bytes regions blocks sound in_regions in_blocks =
@@ -158,7 +173,7 @@ pieces bytes head =
     ∙ take-append-drop 32 bytes
 
 -- the image of all that was read are the bytes
-pub image_read : (bytes : List ℕ) (regions : List MemoryRegion) (blocks : List MemBlock) → ((k : ℕ) → get_or bytes k 0 < 256) → IsSound bytes
+image_read : (bytes : List ℕ) (regions : List MemoryRegion) (blocks : List MemBlock) → ((k : ℕ) → get_or bytes k 0 < 256) → IsSound bytes
     → AreRegionsOf bytes (region_count (word_at bytes 24)) regions → AreBlocksOf bytes (word_at bytes 24) (word_at bytes 16) blocks
     → image_of (words_in regions) (contents_in blocks) ≡ bytes
 image_read bytes regions blocks small sound in_regions in_blocks =
@@ -174,3 +189,14 @@ image_read bytes regions blocks small sound in_regions in_blocks =
     ∙ ap (λ bs. take 32 bytes ++ (bs ++ flat_map block_bytes (contents_in blocks))) in_regions.image
     ∙ ap (λ bs. take 32 bytes ++ (take (region_at (region_count queues) - 32) (drop 32 bytes) ++ bs)) in_blocks.image
     ∙ pieces bytes head
+
+-- What was read of a sound image, by the numbers in its header.
+pub record IsAllOf (bytes : List ℕ) (regions : List MemoryRegion) (blocks : List MemBlock) : Type 0 where
+  pub store : IsStore (map (λ region. region.seen) regions) (map seen_of blocks) (map number_of blocks)
+  pub image : image_of (words_in regions) (contents_in blocks) ≡ bytes
+
+pub all_read : (bytes : List ℕ) (regions : List MemoryRegion) (blocks : List MemBlock) (count queues many : ℕ) → count ≡ region_count queues → queues ≡ word_at bytes 24 → many ≡ word_at bytes 16
+    → ((k : ℕ) → get_or bytes k 0 < 256) → IsSound bytes → AreRegionsOf bytes count regions → AreBlocksOf bytes queues many blocks → IsAllOf bytes regions blocks
+all_read bytes regions blocks count queues many is in_queues in_blocks small sound of_regions of_blocks =
+    let both = settled bytes regions blocks count queues many is in_queues in_blocks of_regions of_blocks in
+    record { store = store_read bytes regions blocks sound both.0 both.1; image = image_read bytes regions blocks small sound both.0 both.1 }

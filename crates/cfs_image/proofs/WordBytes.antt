@@ -1,11 +1,11 @@
 -- Words as bytes, and bytes as words.
-use Rattle.std.proofs.Common.{ℕ, zero, suc, ◌+◌, ◌*◌, ◌<◌, ◌≤◌, ◌≡◌, ◌∙◌, List, [], ◌∷◌, ◌++◌, length, take, drop, get_or, refl, sym, ap, subst, arith}
+use Rattle.std.proofs.Common.{All, ◌^◌, ℕ, zero, suc, ◌+◌, ◌*◌, ◌<◌, ◌≤◌, ◌≡◌, ◌∙◌, List, [], ◌∷◌, ◌++◌, length, take, drop, get_or, refl, sym, ap, subst, arith}
 use Rattle.std.proofs.lemmas.Nat.{le_bytes_8}
-use Rattle.std.proofs.lemmas.List.{drop-drop, get_or-drop, length-append, length-drop, length-take-le, nil_from_length, take-append-drop}
+use Rattle.std.proofs.lemmas.List.{drop-drop, get_or_default, get_or-drop, length-append, length-drop, length-take-le, nil_from_length, take-append-drop}
 use Rattle.std.specs.Int.{w64, from_le_bytes}
 use Rattle.byteorder.specs.Endian.{little_bytes, little_number, IsRead}
-use Rattle.byteorder.specs.Numbers.{length-bytes_low_first, little_from-take}
-use Rattle.cfs_image.specs.Image.{words_bytes}
+use Rattle.byteorder.specs.Numbers.{length-bytes_low_first, little_from-lt, little_from-take}
+use Rattle.cfs_image.specs.Image.{IsWord, words_bytes}
 
 small_front : (n : ℕ) (bytes : List ℕ) → ((k : ℕ) → get_or bytes k 0 < 256) → (k : ℕ) → get_or (take n bytes) k 0 < 256
 small_front zero bytes small k = omega arith
@@ -41,3 +41,10 @@ words_bytes-read (word ∷ words) bytes size small read =
     read (suc k) (omega arith) ∙ ap (λ (m : ℕ). little_number 8 (drop m bytes)) at ∙ ap (λ ds. little_number 8 ds) (sym (drop-drop (8 * k) 8 bytes))) in
     ap (λ (w : ℕ). little_bytes 8 w ++ words_bytes words) first ∙ ap (λ bs. bs ++ words_bytes words) (word_bytes bytes (omega arith) small)
     ∙ ap (λ bs. take 8 bytes ++ bs) rest ∙ take-append-drop 8 bytes
+
+-- words that stand in bytes are words
+pub fit_read : (words bytes : List ℕ) → ((k : ℕ) → get_or bytes k 0 < 256) → IsRead little_number 8 bytes words → All IsWord words
+fit_read words bytes small read = λ k d l.
+    let below : little_number 8 (drop (8 * k) bytes) < 256 ^ 8 =
+    little_from-lt 0 8 (drop (8 * k) bytes) (λ j. subst (λ v. v < 256) (sym (get_or-drop (8 * k) bytes j 0)) (small (8 * k + j))) in
+    subst (λ w. IsWord w) (sym (get_or_default words k d 0 l ∙ read k l)) (omega arith)

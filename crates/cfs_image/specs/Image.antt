@@ -1,5 +1,5 @@
 -- The bytes that words and contents of blocks are in an image.
-use Rattle.std.specs.Prelude.{ℕ, ◌≡◌, List, [], ◌∷◌, ◌++◌, length, drop, map}
+use Rattle.std.specs.Prelude.{ℕ, ◌^◌, ◌<◌, ◌≡◌, List, [], ◌∷◌, ◌++◌, length, drop, map}
 use Rattle.std.specs.List.{flat_map}
 use Rattle.byteorder.specs.Endian.{little_bytes, little_number}
 use Rattle.cfs_pmem.specs.Images.{MemoryRegion, words_of, began}
@@ -13,6 +13,10 @@ use Rattle.cfs_image.specs.Layout.{queues_of}
 -- the word at an offset: eight bytes, the lowest first
 abbrev pub word_at : List ℕ → ℕ → ℕ
 word_at bytes offset = little_number 8 (drop offset bytes)
+
+-- the number is that of a 64-bit word
+abbrev pub IsWord : ℕ → Type 0
+IsWord word = word < 2 ^ 64
 
 -- words as they stand in an image
 abbrev pub words_bytes : List ℕ → List ℕ

@@ -9,7 +9,7 @@ use cfs_block::MemBlock;
 use cfs_pmem::{MemRegion, Pick};
 
 /// Each region loses power, in order.
-fn crash_regions(regions: &mut Vec<MemRegion>, pick: &mut Pick)
+pub(crate) fn crash_regions(regions: &mut Vec<MemRegion>, pick: &mut Pick)
     ensures left { map (λ region. region.seen) regions.new.items ≡ regions_left pick.old (map (λ region. region.seen) regions.old.items) }
     ensures pick { pick.new ≡ after_regions pick.old (map (λ region. region.seen) regions.old.items) }
     ensures images { AreImages (map (λ region. region.seen) regions.old.items) (map (λ region. region.seen) regions.new.items) }
@@ -21,7 +21,7 @@ fn crash_regions(regions: &mut Vec<MemRegion>, pick: &mut Pick)
 }
 
 /// Each block loses power, in order.
-fn crash_blocks(blocks: &mut Vec<MemBlock>, pick: &mut Pick)
+pub(crate) fn crash_blocks(blocks: &mut Vec<MemBlock>, pick: &mut Pick)
     ensures left { map seen_of blocks.new.items ≡ blocks_left pick.old (map seen_of blocks.old.items) }
     ensures pick { pick.new ≡ after_blocks pick.old (map seen_of blocks.old.items) }
     ensures images { AreBlockImages (map seen_of blocks.old.items) (map seen_of blocks.new.items) }

@@ -12,7 +12,7 @@
 //! An image has its header, four words, and then each device in order of number.
 
 ghost use Rattle.std.specs.Prelude.{◌≡◌, ◌<◌, ◌≤◌};
-ghost use Rattle.cfs_image.specs.Layout.{block_at, image_len, region_at, region_count, region_words};
+ghost use Rattle.cfs_image.specs.Layout.{block_at, image_len, range_of, region_at, region_count, region_words};
 
 /// The first word of an image: the bytes `CROSSFS1`, the first one lowest.
 pub const NAME: u64 = 0x3153_4653_534f_5243;
@@ -85,6 +85,20 @@ pub fn block_at(queues: u32, block: u32) -> usize
     ensures { result ≡ block_at queues block }
 {
     58_936 + 66_304 * queues as usize + 4104 * block as usize
+}
+
+/// The bytes of the device with this number in the image of a store of so many queues: an offset and a length.
+#[inline]
+pub fn range_of(queues: u32, device: u32) -> (usize, usize)
+    requires { queues ≤ MOST_QUEUES }
+    ensures { result ≡ range_of queues device }
+{
+    let first_block = region_count(queues);
+    if device < first_block {
+        (region_at(device), 8 * region_words(device))
+    } else {
+        (block_at(queues, device - first_block), BLOCK_ROOM)
+    }
 }
 
 /// How many bytes the image of a store has.

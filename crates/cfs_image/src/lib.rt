@@ -4,6 +4,7 @@
 mod checks;
 mod crash;
 mod fresh;
+mod laws;
 mod layout;
 mod medium;
 mod read;
@@ -11,11 +12,15 @@ mod refusal;
 mod write;
 
 pub use fresh::new_image;
+pub use laws::{images_are_sound, images_stand, images_tell};
 pub use layout::{
     FEWEST_BLOCKS, FEWEST_QUEUES, FIRST_SLOT, MOST_BLOCKS, MOST_QUEUES, NAME, VERSION, block_at,
-    image_len, region_at, region_count, region_words,
+    image_len, range_of, region_at, region_count, region_words,
 };
 pub use medium::Medium;
 pub use read::read_image;
 pub use refusal::ImageRefusal;
 pub use write::write_image;
+
+#[cfg(test)]
+mod tests;

@@ -1,7 +1,9 @@
 //! The image of a store.
 ghost use Rattle.std.specs.Prelude.{◌≡◌, ◌^◌, ◌<◌, ◌++◌, All, IfOk, OnOk, length};
 ghost use Rattle.std.specs.List.{flat_map};
-ghost use Rattle.cfs_image.specs.Image.{block_bytes, contents_in, image_of, words_bytes, words_in};
+ghost use Rattle.cfs_image.specs.Checks.{IsSound};
+ghost use Rattle.cfs_image.specs.Held.{AreHeld};
+ghost use Rattle.cfs_image.specs.Image.{IsWord, block_bytes, contents_in, image_of, words_bytes, words_in};
 
 use crate::layout::{NAME, VERSION, image_len};
 use crate::medium::Medium;
@@ -13,7 +15,8 @@ use std::alloc::Global;
 
 /// Writes words behind the bytes that are there.
 pub(crate) fn push_words(image: &mut Vec<u8>, words: &[u64]) -> Result<(), NoMemory>
-    ensures { OnOk result (image.new.items ≡ image.old.items ++ words_bytes words.now) }
+    ensures image { OnOk result (image.new.items ≡ image.old.items ++ words_bytes words.now) }
+    ensures fit { All IsWord words.now }
 {
     let from = image.len();
     image.resize(from + 8 * words.len(), 0)?;
@@ -23,7 +26,8 @@ pub(crate) fn push_words(image: &mut Vec<u8>, words: &[u64]) -> Result<(), NoMem
 
 /// Writes the words of regions, one after another, behind the bytes that are there.
 fn push_regions(image: &mut Vec<u8>, regions: &[MemRegion]) -> Result<(), NoMemory>
-    ensures { OnOk result (image.new.items ≡ image.old.items ++ flat_map words_bytes (words_in regions.now)) }
+    ensures image { OnOk result (image.new.items ≡ image.old.items ++ flat_map words_bytes (words_in regions.now)) }
+    ensures fit { OnOk result (All (λ words. All IsWord words) (words_in regions.now)) }
 {
     for region in regions {
         push_words(image, region.words())?;
@@ -33,7 +37,8 @@ fn push_regions(image: &mut Vec<u8>, regions: &[MemRegion]) -> Result<(), NoMemo
 
 /// Writes a tag and bytes for each block, one after another, behind the bytes that are there.
 fn push_blocks(image: &mut Vec<u8>, blocks: &[MemBlock]) -> Result<(), NoMemory>
-    ensures { OnOk result (image.new.items ≡ image.old.items ++ flat_map block_bytes (contents_in blocks.now)) }
+    ensures image { OnOk result (image.new.items ≡ image.old.items ++ flat_map block_bytes (contents_in blocks.now)) }
+    ensures fit { OnOk result (All (λ content. IsWord content.tag) (contents_in blocks.now)) }
 {
     for block in blocks {
         image.extend_from_slice(&block.tag_word().to_le_bytes())?;
@@ -42,10 +47,11 @@ fn push_blocks(image: &mut Vec<u8>, blocks: &[MemBlock]) -> Result<(), NoMemory>
     Ok(())
 }
 
-/// The image of what a store holds now: its header, the words of its regions and the tags and bytes of its blocks. It costs one pass over
-/// them.
+/// The image of what a store holds now, in one pass over it: the header, the words of its regions, the tags and bytes of its blocks (own).
 pub fn write_image(alloc: Global, medium: &Medium<MemRegion, MemBlock>) -> Result<Bytes, NoMemory>
-    ensures { IfOk result (λ image. image ≡ image_of (words_in medium.now.regions.items) (contents_in medium.now.blocks.items)) }
+    ensures image { IfOk result (λ image. image ≡ image_of (words_in medium.now.regions.items) (contents_in medium.now.blocks.items)) }
+    ensures held { OnOk result (AreHeld (words_in medium.now.regions.items) (contents_in medium.now.blocks.items)) }
+    ensures sound { IfOk result (λ image. IsSound image) }
 {
     let queues = medium.queues();
     let blocks = medium.blocks.len() as u32;

@@ -14,4 +14,4 @@ loop-number-preserved c =
     (c.in_ok-read_block.ensures.content ∙ ap (λ (n : ℕ). take n (drop from c.args.bytes.now)) size
     ∙ ap (λ (place : ℕ). take 4104 (drop place c.args.bytes.now)) at)
     (c.in_ok-read_block.ensures.device ∙ ap (λ (first : ℕ). first + number) c.region_count-first.ensures)
-    c.in_ok-read_block.ensures.number c.in_ok-read_block.ensures.untouched)
+    c.in_ok-read_block.ensures.number c.in_ok-read_block.ensures.fit c.in_ok-read_block.ensures.untouched)

@@ -14,4 +14,4 @@ loop-device-preserved c =
     (regions_more c.args.bytes.now device c.loop-device.regions.items c.in_ok-read_region.field-0 c.loop-device.invariant
     (c.in_ok-read_region.ensures.words ∙ ap (λ (n : ℕ). take n (drop from c.args.bytes.now)) size
     ∙ ap (λ (place : ℕ). take (8 * region_words device) (drop place c.args.bytes.now)) at)
-    c.in_ok-read_region.ensures.size c.in_ok-read_region.ensures.device c.in_ok-read_region.ensures.untouched)
+    c.in_ok-read_region.ensures.size c.in_ok-read_region.ensures.device c.in_ok-read_region.ensures.fit c.in_ok-read_region.ensures.untouched)
