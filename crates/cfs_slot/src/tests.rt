@@ -143,7 +143,7 @@ fn stopped(slot: Slot<MemRegion>, meter: &mut Meter, request: &Request, n: u64) 
     }
 }
 
-/// Whether a crash leaves these first words where it keeps what was durable, and those where it keeps what was present.
+/// Whether a crash of this pick leaves these first words.
 fn leaves(mut region: MemRegion, k: u64, words: &[u64]) -> bool {
     region.crash(&mut Pick::new(k));
     begins_with(&region, words)
@@ -246,7 +246,12 @@ fn doubted<R: Region + Drop>(staged: Staged<R>, meter: &mut Meter) -> Option<Dou
     opened.err()
 }
 
-// Gate, mark, inode number and offset, where a crash keeps what was durable and where it keeps what was present. Each call makes
+/// The same of the gate, the mark, the inode number and the offset.
+fn fields_left(region: MemRegion, k: u64, fields: [u64; 4]) -> bool {
+    leaves(region, k, &fields)
+}
+
+// What is left of the four fields, where a crash keeps what was durable and where it keeps what was present. Each call makes
 // two steps: the word and the persist.
 #[test]
 fn a_refused_call_leaves_its_word_old_or_new(rt: HostRuntime) -> Result<(), Fail> {
@@ -265,14 +270,18 @@ fn a_refused_call_leaves_its_word_old_or_new(rt: HostRuntime) -> Result<(), Fail
         (Call::Settle, 2, [0, 0, 2, 5], [0, 0, 2, 5]),
         (Call::Settle, 3, [0, 0, 2, 5], [0, 0, 2, 5]),
     ] {
-        for (k, words) in [(0, durable), (1, present)] {
-            let mut meter = Meter::calm(rt.alloc());
-            let region = refused(empty(rt.alloc())?, &mut meter, &hello, call, n);
-            assert!(rt;
-                leaves(region.ok_or("no slot")?, k, &words),
-                "{call:?}, stop {n}, pick {k}"
-            );
-        }
+        let mut meter = Meter::calm(rt.alloc());
+        let region = refused(empty(rt.alloc())?, &mut meter, &hello, call, n).ok_or("no slot")?;
+        assert!(rt;
+            fields_left(region, 0, durable),
+            "{call:?}, stop {n}, durable"
+        );
+        meter.revive();
+        let region = refused(empty(rt.alloc())?, &mut meter, &hello, call, n).ok_or("no slot")?;
+        assert!(rt;
+            fields_left(region, 1, present),
+            "{call:?}, stop {n}, present"
+        );
     }
     Ok(())
 }

@@ -1,10 +1,10 @@
-use Rattle.std.proofs.Common.{ℕ, ◌∙◌, ◌≡◌, ◌+◌, ◌*◌, ◌<◌, ◌≤◌, length, get_or, sym, ap, arith, rules}
+use Rattle.std.proofs.Common.{ℕ, ◌∙◌, ◌≡◌, ◌+◌, ◌*◌, ◌<◌, length, get_or, sym, ap, arith, rules}
 use Rattle.std.proofs.lemmas.List.{take_rest}
 use Rattle.byteorder.specs.Endian.{little_number}
 use Rattle.cfs_pmem.specs.Images.{words_of}
 use Rattle.cfs_slot.specs.Staging.{words_for}
 use Rattle.cfs_slot.specs.Writing.{payload_words}
-use Rattle.cfs_slot.proofs.PayloadLemmas.{payload_words_at, holds_payload}
+use Rattle.cfs_slot.proofs.PayloadLemmas.{payload_words_at}
 use Rattle.cfs_slot.proofs.WritingLemmas.{written_more, stopped_at, on_err}
 use Rattle.cfs_slot.proofs.staging.write_whole_words.Goals as goal
 
