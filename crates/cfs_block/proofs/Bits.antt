@@ -1,5 +1,5 @@
 -- Bits of a word, and of words of 64 bits.
-use Rattle.std.proofs.Common.{ℕ, ◌+◌, ◌-◌, ◌*◌, ◌/◌, ◌%◌, ◌^◌, ◌<◌, ◌≤◌, ◌≡◌, ◌∙◌, ◌==◌, ◌&&◌, ◌||◌, Bool, true, false, List, length, get_or, max, min, inl, inr, refl, sym, ap, arith, get_or-set_same, get_or-set_other}
+use Rattle.std.proofs.Common.{ℕ, ◌+◌, ◌-◌, ◌*◌, ◌/◌, ◌%◌, ◌^◌, ◌<◌, ◌≤◌, ◌≡◌, ◌≢◌, ◌∙◌, ◌==◌, ◌&&◌, ◌||◌, Bool, true, false, List, length, get_or, max, min, inl, inr, refl, sym, ap, arith, get_or-set_same, get_or-set_other}
 use Rattle.std.specs.Prelude.{nat_le, nat_lt}
 use Rattle.std.specs.Int.{bit_at}
 use Rattle.std.specs.Int.RustNames.{bit_or}
@@ -7,7 +7,7 @@ use Rattle.std.proofs.Math.ListN.{set, replicate}
 use Rattle.std.proofs.lemmas.List.{length-set, get_or-replicate, get_or_past, length-replicate}
 use Rattle.std.proofs.lemmas.Bool.{cases_lt, lt-ltb, le-ltb, le-leb, lt-leb}
 use Rattle.std.proofs.lemmas.Nat.Bits.{bit_at_or, bit_at-lt, bit_at-zero, bit_at_mask_inside, bit_at_mask_below, bit_at_mask_above}
-use Rattle.cfs_block.specs.Written.{is_set}
+use Rattle.cfs_block.specs.Written.{is_set, IsSetWithin}
 
 is_one : (b m : ℕ) → m ≡ b → (m == 1) ≡ (b == 1)
 is_one b m e = ap (λ n. n == 1) e
@@ -96,6 +96,39 @@ setting_all from to was now i h end k = elim (cases_lt (k / 64) i) as (λ _. is_
     off : (a b : Bool) → ((a && false) || b) ≡ b
     off true b = refl
     off false b = refl
+
+-- Words from a place on whose bits are not cleared yet.
+pub record Clearing (to : ℕ) (was now : List ℕ) (i : ℕ) : Type 0 where
+  pub size : length now ≡ length was
+  pub left : IsSetWithin (64 * i) to now
+
+pub clearing_none : (from to : ℕ) (was : List ℕ) → IsSetWithin from to was → Clearing to was was (from / 64)
+clearing_none from to was within = record { size = refl; left = λ k s. let h = within k s in (omega (arith, h.0), h.1) }
+
+pub clearing_more : (to : ℕ) (was now : List ℕ) (i : ℕ) → Clearing to was now i → i < length now → Clearing to was (set now i 0) (i + 1)
+clearing_more to was now i h within = record {
+  size = length-set now i 0 ∙ h.size;
+  left = λ k s.
+      let elsewhere : k / 64 ≢ i → is_set now k ≡ true = λ ne. sym (ap (λ w. bit_at w (k % 64) == 1) (get_or-set_other now i (k / 64) 0 0 ne)) ∙ s in
+      elim (cases_lt (k / 64) i) [
+        | inl less ↦ let old = h.left k (elsewhere (λ e. omega arith)) in absurd (omega (arith, old.0, less))
+        | inr from_on ↦ elim (cases_lt i (k / 64)) [
+          | inl more ↦ let old = h.left k (elsewhere (λ e. omega arith)) in (omega arith, old.1)
+          | inr here ↦
+              let j : k / 64 ≡ i = omega arith in
+              let zero : get_or (set now i 0) (k / 64) 0 ≡ 0 = ap (λ n. get_or (set now i 0) n 0) j ∙ get_or-set_same now i 0 0 within in
+              let unset : is_set (set now i 0) k ≡ false = ap (λ w. bit_at w (k % 64) == 1) zero ∙ ap (λ b. b == 1) (bit_at-zero (k % 64)) in
+              absurd (cc)
+        ]
+      ];
+}
+
+pub clearing_all : (to : ℕ) (was now : List ℕ) (i : ℕ) → Clearing to was now i → to ≤ 64 * i → (k : ℕ) → is_set now k ≡ false
+clearing_all to was now i h end k = unset (is_set now k) (λ s. let left = h.left k s in absurd (omega (arith, left.0, left.1)))
+  where
+    unset : (b : Bool) → (b ≡ true → ⊥) → b ≡ false
+    unset true never = absurd (never refl)
+    unset false never = refl
 
 -- no bit is set in words that are zero
 pub is_set-replicate : (n k : ℕ) → is_set (replicate n 0) k ≡ false

@@ -1,5 +1,5 @@
 -- A block in memory keeps its history that of its copies and its bits, through each kind of step and through a crash.
-use Rattle.std.proofs.Common.{Bool, true, false, ℕ, ◌+◌, ◌%◌, ◌<◌, ◌≤◌, ◌≡◌, ◌∙◌, ◌&&◌, ◌||◌, List, [], ◌∷◌, ◌++◌, length, get_or, take, drop, inl, inr, refl, sym, ap, subst, arith, ⊎_elim}
+use Rattle.std.proofs.Common.{Bool, true, false, ℕ, ◌+◌, ◌%◌, ◌<◌, ◌≤◌, ◌≡◌, ◌∙◌, ◌&&◌, ◌||◌, List, [], ◌∷◌, ◌++◌, length, get_or, take, drop, min, max, inl, inr, refl, sym, ap, subst, arith, ⊎_elim}
 use Rattle.std.specs.Prelude.{nat_le, nat_lt}
 use Rattle.std.proofs.lemmas.List.{take_at, drop_at, take-append-drop, length-take-le, length-drop, drop-drop, append_assoc, length-append}
 use Rattle.std.proofs.lemmas.Bool.{or_cases, and_parts, leb-true, ltb-true}
@@ -11,7 +11,7 @@ use Rattle.cfs_pmem.proofs.Crashes.{left_word, length-each_left, each_left_at, s
 use Rattle.cfs_pmem.specs.Range.{with_range}
 use Rattle.cfs_pmem.proofs.Ranges.{with_write, nothing_differs}
 use Rattle.cfs_block.specs.BlockImages.{Content, BlockStep, ranged, tagged, flushed, stalled, content_now, content_kept, patched, with_bytes, with_tag, IsTorn, MayHaveByte, MayHaveTag, IsBlockImage}
-use Rattle.cfs_block.specs.Written.{is_written, is_set, block_left, after_block}
+use Rattle.cfs_block.specs.Written.{is_written, is_set, IsSetWithin, block_left, after_block}
 use Rattle.cfs_block.specs.Backed.{IsBacked}
 use Rattle.cfs_block.proofs.BlockLemmas.{length-patched, byte_now, byte_kept, tag_now, tag_kept}
 
@@ -40,8 +40,20 @@ backed_began dirty content written from to full words none = record {
   differ = nothing_differs dirty content.bytes from to;
   full = full;
   words = words;
+  within = λ k s. let unset = none k in absurd (cc);
   bits = λ k l. none k;
 }
+
+-- bits that were set in a range are within that range and the one before
+set_within : (low high from to : ℕ) (was now : List ℕ) → IsSetWithin low high was → ((k : ℕ) → is_set now k ≡ ((nat_le from k && nat_lt k to) || is_set was k))
+    → IsSetWithin (min low from) (max high to) now
+set_within low high from to was now within bits = λ k s.
+    elim (or_cases (nat_le from k && nat_lt k to) (is_set was k) (sym (bits k) ∙ s)) [
+      | inl here ↦
+          let parts = and_parts (nat_le from k) (nat_lt k to) here in
+          (omega (arith, leb-true from k parts.0), omega (arith, ltb-true k to parts.1))
+      | inr earlier ↦ let old = within k earlier in (omega (arith, old.0), omega (arith, old.1))
+    ]
 
 -- after a write, and after one that failed and left the bytes
 pub backed_ranged : (history : List BlockStep) (dirty : Dirty) (kept now : Content) (written written' : List ℕ) (from : ℕ) (new : List ℕ) → IsBacked history dirty kept now written
@@ -57,18 +69,20 @@ backed_ranged history dirty kept now written written' from new h fits size bits 
           (take-patched now.bytes from new within) (drop-patched now.bytes from new within) (omega arith) within;
       full = length-patched now.bytes from new within ∙ h.full;
       words = size ∙ h.words;
+      within = set_within dirty.from dirty.to from (from + length new) written written' h.within bits;
       bits = λ k l. bits k ∙ ap (λ b. (nat_le from k && nat_lt k (from + length new)) || b) (h.bits k l);
     }
 
 pub backed_torn : (history : List BlockStep) (dirty : Dirty) (kept now : Content) (written written' : List ℕ) (from len : ℕ) → IsBacked history dirty kept now written
-    → length written' ≡ length written → ((k : ℕ) → is_set written' k ≡ ((nat_le from k && nat_lt k (from + len)) || is_set written k))
-    → IsBacked (ranged from len now ∷ history) dirty kept now written'
-backed_torn history dirty kept now written written' from len h size bits = record {
+    → from + len ≤ 4096 → length written' ≡ length written → ((k : ℕ) → is_set written' k ≡ ((nat_le from k && nat_lt k (from + len)) || is_set written k))
+    → IsBacked (ranged from len now ∷ history) (with_range from (from + len) dirty) kept now written'
+backed_torn history dirty kept now written written' from len h fits size bits = record {
   now_is = refl;
   kept_is = h.kept_is;
-  differ = h.differ;
+  differ = with_write dirty kept.bytes now.bytes now.bytes from (from + len) h.differ refl refl refl (omega (arith, h.full)) (omega (arith, h.full));
   full = h.full;
   words = size ∙ h.words;
+  within = set_within dirty.from dirty.to from (from + len) written written' h.within bits;
   bits = λ k l. bits k ∙ ap (λ b. (nat_le from k && nat_lt k (from + len)) || b) (h.bits k l);
 }
 
@@ -80,6 +94,7 @@ backed_tagged history dirty kept now written asked tag h = record {
   differ = h.differ;
   full = h.full;
   words = h.words;
+  within = h.within;
   bits = h.bits;
 }
 
@@ -91,6 +106,7 @@ backed_stalled history dirty kept now written h = record {
   differ = h.differ;
   full = h.full;
   words = h.words;
+  within = h.within;
   bits = h.bits;
 }
 
@@ -102,6 +118,7 @@ backed_flushed history dirty now written from to full words none = record {
   differ = nothing_differs dirty now.bytes from to;
   full = full;
   words = words;
+  within = λ k s. let unset = none k in absurd (cc);
   bits = λ k l. none k;
 }
 

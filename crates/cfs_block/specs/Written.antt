@@ -1,5 +1,5 @@
 -- Which bytes of a block were written since the newest flush that succeeded, what a crash leaves of them, and the bits that note them.
-use Rattle.std.specs.Prelude.{ℕ, ◌+◌, ◌/◌, ◌%◌, ◌==◌, ◌&&◌, ◌||◌, nat_lt, nat_le, Bool, false, List, [], ◌∷◌}
+use Rattle.std.specs.Prelude.{ℕ, ◌+◌, ◌/◌, ◌%◌, ◌<◌, ◌≤◌, ◌≡◌, ◌==◌, ◌&&◌, ◌||◌, nat_lt, nat_le, Bool, true, false, List, [], ◌∷◌}
 use Rattle.std.specs.Int.{bit_at}
 use Rattle.std.proofs.Math.ListN.{get_or}
 use Rattle.cfs_pmem.specs.declared.pick.Pick.{Pick}
@@ -16,6 +16,10 @@ is_written (stalled content ∷ before) k = is_written before k
 -- bit k of words of 64 bits
 abbrev pub is_set : List ℕ → ℕ → Bool
 is_set words k = bit_at (get_or words (k / 64) 0) (k % 64) == 1
+
+-- no bit is set but from a place up to another
+abbrev pub IsSetWithin : ℕ → ℕ → List ℕ → Type 0
+IsSetWithin from to words = (k : ℕ) → is_set words k ≡ true → (from ≤ k) × (k < to)
 
 -- the content that a crash leaves, the tag first and then byte by byte, and the pick behind it
 abbrev pub block_left : Pick → List BlockStep → Content

@@ -13,7 +13,7 @@ use cfs_pmem::{DeviceFault, Dirty, Pick, Power};
 use std::alloc::{AllocFailed, Global};
 
 /// A block that keeps a durable and a present copy of its bytes and its tag, and a bit for each byte that was in the range of a write since the last flush.
-/// It takes no memory once it is made, and a flush copies what was written since the last one.
+/// It takes no memory once it is made, and a flush costs what was written since the last one.
 #[derive(Drop)]
 pub struct MemBlock {
     device: u32,
@@ -57,7 +57,7 @@ impl MemBlock {
                 tag,
                 durable,
                 written,
-                dirty: Dirty::none(bytes.len()),
+                dirty: Dirty::none(BLOCK_LEN as u32),
                 history: BlockHistory::of(tag, &bytes),
                 present: bytes,
                 faults: 0,
@@ -92,8 +92,8 @@ impl MemBlock {
         self.tag = pick.word(self.durable_tag, self.tag);
         self.durable_tag = self.tag;
         leave(pick, &self.written, &mut self.durable, &mut self.present);
-        written::clear(&mut self.written);
-        self.dirty = Dirty::none(self.present.len());
+        written::clear(&mut self.written, self.dirty);
+        self.dirty = Dirty::none(BLOCK_LEN as u32);
         self.history = BlockHistory::of(self.tag, &self.present);
     }
 }
@@ -164,10 +164,11 @@ impl Block for MemBlock {
         from: u32,
         bytes: &[u8],
     ) -> Result<(), DeviceFault> {
-        let from = from as usize;
-        let to = from + bytes.len();
+        let to = from + bytes.len() as u32;
         // A crash may leave any bytes in the range, also of a write that failed.
-        written::set_range(&mut self.written, from, to);
+        written::set_range(&mut self.written, from as usize, to as usize);
+        self.dirty.add(from, to);
+        let from = from as usize;
         if !power.step(self.device, true) {
             self.faults = self.faults.saturating_add(1);
             self.history
@@ -175,7 +176,6 @@ impl Block for MemBlock {
             return Err(DeviceFault);
         }
         put(&mut self.present, from, bytes);
-        self.dirty.add(from, to);
         self.history
             .range(from, bytes.len(), self.tag, &self.present);
         Ok(())
@@ -207,9 +207,9 @@ impl Block for MemBlock {
             return Err(DeviceFault);
         }
         self.dirty.copy(&self.present, &mut self.durable);
-        self.dirty = Dirty::none(self.present.len());
+        written::clear(&mut self.written, self.dirty);
+        self.dirty = Dirty::none(BLOCK_LEN as u32);
         self.durable_tag = self.tag;
-        written::clear(&mut self.written);
         self.history.flush(self.tag, &self.present);
         Ok(())
     }

@@ -1,6 +1,8 @@
 //! Bits, sixty-four to a word, that note which bytes of a block were written.
 ghost use Rattle.std.specs.Prelude.{◌≡◌, ◌-◌, ◌*◌, ◌^◌, ◌<◌, ◌≤◌, ◌&&◌, ◌||◌, ℕ, false, length, nat_le, nat_lt};
-ghost use Rattle.cfs_block.specs.Written.{is_set};
+ghost use Rattle.cfs_block.specs.Written.{is_set, IsSetWithin};
+
+use cfs_pmem::Dirty;
 
 /// A word with its lowest `k` bits set.
 #[inline]
@@ -45,11 +47,14 @@ pub fn is_set(written: &Vec<u64>, k: usize) -> bool
     written[k / 64] >> (k % 64) & 1 == 1
 }
 
-/// Clears every bit.
-#[inline]
-pub fn clear(written: &mut Vec<u64>)
+/// Clears every bit, where none is set outside of this range. Touches the words of the range alone.
+pub fn clear(written: &mut Vec<u64>, dirty: Dirty)
+    requires within { IsSetWithin dirty.from dirty.to written.old.items }
+    requires fits { dirty.to ≤ 64 * length written.old.items }
     ensures bits { (k : ℕ) → is_set written.new.items k ≡ false }
     ensures size { length written.new.items ≡ length written.old.items }
 {
-    written.fill(0);
+    for i in dirty.from as usize / 64..(dirty.to as usize).div_ceil(64) {
+        written[i] = 0;
+    }
 }

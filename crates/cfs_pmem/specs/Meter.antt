@@ -1,5 +1,5 @@
 -- When the power of one thread refuses a step.
-use Rattle.std.specs.Prelude.{ℕ, ◌+◌, ◌-◌, ◌^◌, ◌==◌, ◌&&◌, ◌||◌, min, Bool, true, false, not, List, map, filter, if◌then◌else◌}
+use Rattle.std.specs.Prelude.{ℕ, ◌+◌, ◌-◌, ◌^◌, ◌≡◌, ◌==◌, ◌&&◌, ◌||◌, min, Bool, true, false, not, List, [], map, filter, if◌then◌else◌}
 use Rattle.std.specs.List.{list_any}
 use Rattle.cfs_pmem.specs.Steps.{with_step, with_read}
 use Rattle.cfs_pmem.specs.declared.meter.Plan.{Plan}
@@ -50,11 +50,21 @@ plans_after device writing plans = map (counted device writing) (filter (λ plan
 abbrev pub refuses : ℕ → Bool → State → Bool
 refuses device writing state = is_off (supply_after writing state.supply) || list_any (is_due device writing) state.plans
 
-abbrev pub after_step : ℕ → Bool → State → State
-after_step device writing state = record {
+-- what that step leaves of the stop, the plans and the count
+abbrev pub counted_step : ℕ → Bool → State → State
+counted_step device writing state = record state {
   supply = supply_after writing state.supply;
   plans = plans_after device writing state.plans;
-  steps = with_step device writing state.steps;
-  reads = with_read device writing state.reads;
   refused = if refuses device writing state then min (state.refused + 1) (2 ^ 64 - 1) else state.refused;
 }
+
+abbrev pub after_step : ℕ → Bool → State → State
+after_step device writing state = record (counted_step device writing state) {
+  steps = with_step device writing state.steps;
+  reads = with_read device writing state.reads;
+}
+
+-- A meter that is not armed has no stop and no plan.
+pub record IsArmed (armed : Bool) (supply : Supply) (plans : List Plan) : Type 0 where
+  pub steady : armed ≡ false → supply ≡ Steady
+  pub unplanned : armed ≡ false → plans ≡ []

@@ -4,15 +4,15 @@ ghost use Rattle.std.specs.Prelude.{◌≡◌, length};
 /// The least range that holds every place that was added: `from..to`, or none where `to` is not above `from`.
 #[derive(Clone, Copy, Debug)]
 pub struct Dirty {
-    pub from: usize,
-    pub to: usize,
+    pub from: u32,
+    pub to: u32,
 }
 
 impl Dirty {
     ghost use Rattle.cfs_pmem.specs.Range.{with_range, DifferWithin};
 
     /// No place of `len`.
-    pub fn none(len: usize) -> Dirty
+    pub fn none(len: u32) -> Dirty
         ensures { result ≡ record { from = len; to = 0 } }
     {
         Dirty { from: len, to: 0 }
@@ -20,7 +20,7 @@ impl Dirty {
 
     /// Adds the places from `from` up to `to`.
     #[inline]
-    pub fn add(&mut self, from: usize, to: usize)
+    pub fn add(&mut self, from: u32, to: u32)
         ensures { self.new ≡ with_range from to self.old }
     {
         self.from = self.from.min(from);
@@ -33,8 +33,9 @@ impl Dirty {
         requires { DifferWithin self durable.old.items present.now.items }
         ensures { durable.new.items ≡ present.now.items }
     {
-        if self.from < self.to {
-            durable[self.from..self.to].copy_from_slice(&present[self.from..self.to]);
+        let (from, to) = (self.from as usize, self.to as usize);
+        if from < to {
+            durable[from..to].copy_from_slice(&present[from..to]);
         }
     }
 }

@@ -50,7 +50,7 @@ impl MemRegion {
             Ok(durable) => Ok(MemRegion {
                 device,
                 durable,
-                dirty: Dirty::none(words.len()),
+                dirty: Dirty::none(words.len() as u32),
                 history: History::of(&words),
                 present: words,
                 faults: 0,
@@ -76,11 +76,12 @@ impl MemRegion {
         ensures faults { self.new.faults ≡ self.old.faults }
     {
         leave(pick, &mut self.durable, &mut self.present);
-        self.dirty = Dirty::none(self.present.len());
+        self.dirty = Dirty::none(self.present.len() as u32);
         self.history = History::of(&self.present);
     }
 
     /// Counts a fault.
+    #[cold]
     fn fault(&mut self) -> DeviceFault
         ensures { self.new ≡ record self.old { faults = min (self.old.faults + 1) (2 ^ 64 - 1) } }
     {
@@ -133,8 +134,7 @@ impl Region for MemRegion {
             self.history.change(&self.present);
             return Err(self.fault());
         }
-        let at = at as usize;
-        self.present[at] = word;
+        self.present[at as usize] = word;
         self.dirty.add(at, at + 1);
         self.history.change(&self.present);
         Ok(())
@@ -147,7 +147,7 @@ impl Region for MemRegion {
             return Err(self.fault());
         }
         self.dirty.copy(&self.present, &mut self.durable);
-        self.dirty = Dirty::none(self.present.len());
+        self.dirty = Dirty::none(self.present.len() as u32);
         self.history.persist(&self.present);
         Ok(())
     }

@@ -4,7 +4,7 @@ ghost use Rattle.std.specs.Bool.{OnTrue, OnFalse};
 ghost use Rattle.std.specs.List.{list_any};
 ghost use Rattle.cfs_pmem.specs.Faults.{Rose};
 ghost use Rattle.cfs_pmem.specs.Steps.{with_step, with_read};
-ghost use Rattle.cfs_pmem.specs.Meter.{plans_after, is_due, counted, is_off, refuses, after_step};
+ghost use Rattle.cfs_pmem.specs.Meter.{plans_after, is_due, counted, is_off, refuses, counted_step, after_step};
 
 use crate::power::Power;
 use crate::trace::Trace;
@@ -36,6 +36,8 @@ pub struct Plan {
 /// A power of one thread. It refuses a step only where a stop or a plan says so.
 #[derive(Drop)]
 pub struct Meter {
+    /// Whether a stop or a plan was set since it was last calm. Where none was, a step is one test.
+    armed: bool,
     supply: Supply,
     plans: Vec<Plan>,
     refused: u64,
@@ -49,6 +51,10 @@ impl Model for Meter {
     ghost Value = { State };
 
     ghost view = { λ m. record { supply = m.supply; plans = m.plans.items; steps = m.steps; reads = m.reads; refused = m.refused } };
+
+    ghost use Rattle.cfs_pmem.specs.Meter.{IsArmed};
+
+    ghost invariant = { λ m. IsArmed m.armed m.supply m.plans.items };
 }
 
 impl Supply {
@@ -138,6 +144,7 @@ impl Meter {
         ensures { result ≡ record { supply = Supply.Steady; plans = []; steps = []; reads = []; refused = 0 } }
     {
         Meter {
+            armed: false,
             supply: Supply::Steady,
             plans: Vec::new(alloc),
             refused: 0,
@@ -151,6 +158,7 @@ impl Meter {
         requires { 0 < n }
         ensures { self.new ≡ record self.old { supply = Supply.Until (n - 1) } }
     {
+        self.armed = true;
         self.supply = Supply::Until(n - 1);
     }
 
@@ -167,6 +175,7 @@ impl Meter {
             writing,
             passing: k - 1,
         })?;
+        self.armed = true;
         Ok(())
     }
 
@@ -174,6 +183,7 @@ impl Meter {
     pub fn revive(&mut self)
         ensures { self.new ≡ record self.old { supply = Supply.Steady; plans = [] } }
     {
+        self.armed = false;
         self.supply = Supply::Steady;
         self.plans.clear();
     }
@@ -183,6 +193,22 @@ impl Meter {
         ensures { result ≡ is_off self.now.supply }
     {
         self.supply.is_off()
+    }
+
+    /// Counts a step towards the stop and in each plan. Answers whether it passes.
+    #[cold]
+    #[inline(never)]
+    fn count(&mut self, device: u32, writing: bool) -> bool
+        ensures answer { result ≡ not (refuses device writing self.old) }
+        ensures after { self.new ≡ counted_step device writing self.old }
+    {
+        self.supply.pass(writing);
+        let planned = spend(&mut self.plans, device, writing);
+        let passes = !(planned || self.supply.is_off());
+        if !passes {
+            self.refused = self.refused.saturating_add(1);
+        }
+        passes
     }
 }
 
@@ -209,12 +235,6 @@ impl Power for Meter {
         } else {
             self.reads.push(device);
         }
-        self.supply.pass(writing);
-        let planned = !self.plans.is_empty() && spend(&mut self.plans, device, writing);
-        let passes = !(planned || self.supply.is_off());
-        if !passes {
-            self.refused = self.refused.saturating_add(1);
-        }
-        passes
+        !self.armed || self.count(device, writing)
     }
 }

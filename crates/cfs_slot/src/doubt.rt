@@ -52,6 +52,7 @@ impl<R: Region> Doubt<R> {
         ensures moments { Moments IsImage (IsSetFrom (R.seen (of_doubt self)) GATE 0)
             (P.steps power.old) (R.seen (of_doubt self)) (P.steps power.new) (R.seen (after_settle result)) }
         ensures grant { grant_of (words_of (R.seen (after_settle result))) ≡ grant_of (words_of (R.seen (of_doubt self))) }
+        ensures reads { P.reads power.new ≡ P.reads power.old }
         ensures cause { HasCause (R.faults (of_doubt self)) (R.faults (after_settle result)) result }
         ensures power { IsTrue R.obeys_power → HasCause (P.refused power.old) (P.refused power.new) result }
     {

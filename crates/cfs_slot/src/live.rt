@@ -66,6 +66,7 @@ impl<R: Region> Live<R> {
             (P.steps power.old) (R.seen (of_live self.old)) (P.steps power.new) (R.seen (of_live self.new)) }
         ensures place { place_of self.new ≡ place_of self.old }
         ensures grant { grant_of (words_of (R.seen (of_live self.new))) ≡ grant_of (words_of (R.seen (of_live self.old))) }
+        ensures reads { P.reads power.new ≡ P.reads power.old }
         ensures cause { HasCause (R.faults (of_live self.old)) (R.faults (of_live self.new)) result }
         ensures power { IsTrue R.obeys_power → HasCause (P.refused power.old) (P.refused power.new) result }
     {
@@ -89,6 +90,7 @@ impl<R: Region> Live<R> {
             (P.steps power.old) (R.seen (of_live self)) (P.steps power.new) (R.seen (after_close result)) }
         ensures place { IfErr result (λ live. place_of live ≡ place_of self) }
         ensures grant { grant_of (words_of (R.seen (after_close result))) ≡ grant_of (words_of (R.seen (of_live self))) }
+        ensures reads { P.reads power.new ≡ P.reads power.old }
         ensures cause { HasCause (R.faults (of_live self)) (R.faults (after_close result)) result }
         ensures power { IsTrue R.obeys_power → HasCause (P.refused power.old) (P.refused power.new) result }
     {

@@ -60,6 +60,7 @@ impl<R: Region> Slot<R> {
             replicate (steps_to_stage request.now) (R.seen (of_slot self)).device ++ P.steps power.old) }
         ensures stopped { OnErr result (StopsIn
             (replicate (steps_to_stage request.now) (R.seen (of_slot self)).device) (P.steps power.old) (P.steps power.new)) }
+        ensures reads { P.reads power.new ≡ P.reads power.old }
         ensures cause { HasCause (R.faults (of_slot self)) (R.faults (after_stage result)) result }
         ensures power { IsTrue R.obeys_power → HasCause (P.refused power.old) (P.refused power.new) result }
     {

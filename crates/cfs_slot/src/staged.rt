@@ -58,6 +58,7 @@ impl<R: Region> Staged<R> {
         ensures moments { Moments IsImage (IsSetFrom (R.seen (of_staged self.old)) OFFSET offset)
             (P.steps power.old) (R.seen (of_staged self.old)) (P.steps power.new) (R.seen (of_staged self.new)) }
         ensures grant { grant_of (words_of (R.seen (of_staged self.new))) ≡ grant_of (words_of (R.seen (of_staged self.old))) }
+        ensures reads { P.reads power.new ≡ P.reads power.old }
         ensures cause { HasCause (R.faults (of_staged self.old)) (R.faults (of_staged self.new)) result }
         ensures power { IsTrue R.obeys_power → HasCause (P.refused power.old) (P.refused power.new) result }
     {
@@ -88,6 +89,7 @@ impl<R: Region> Staged<R> {
         ensures moments { Moments IsImage (IsSetFrom (R.seen (of_staged self)) GATE place)
             (P.steps power.old) (R.seen (of_staged self)) (P.steps power.new) (R.seen (after_open result)) }
         ensures grant { grant_of (words_of (R.seen (after_open result))) ≡ grant_of (words_of (R.seen (of_staged self))) }
+        ensures reads { P.reads power.new ≡ P.reads power.old }
         ensures cause { HasCause (R.faults (of_staged self)) (R.faults (after_open result)) result }
         ensures power { IsTrue R.obeys_power → HasCause (P.refused power.old) (P.refused power.new) result }
     {

@@ -63,17 +63,14 @@ fn parts_of(request: &Request) -> Parts<'_>
     }
 }
 
-/// The first eight bytes as a word, the first one lowest; zero bytes stand for those that are missing.
+/// The last bytes of a payload as a word, the first one lowest; zero bytes stand for those that are missing.
 #[inline]
-fn word_of(bytes: &[u8]) -> u64
-    requires { 0 < length bytes.now }
+fn last_word(bytes: &[u8]) -> u64
+    requires some { 0 < length bytes.now }
+    requires few { length bytes.now < 8 }
     ensures { result ≡ little_number 8 bytes.now }
 {
-    if bytes.len() < 8 {
-        LittleEndian::read_uint(bytes, bytes.len())
-    } else {
-        LittleEndian::read_u64(bytes)
-    }
+    LittleEndian::read_uint(bytes, bytes.len())
 }
 
 /// Writes `words` from the place `from` on: a writing step a word, up to one that fails.
@@ -91,11 +88,37 @@ fn write_words<R: Region, P: Power>(
         (P.steps power.old) (R.seen region.old) (P.steps power.new) (R.seen region.new)) }
     ensures err { OnErr result (HasStopped (length words.now)
         (P.steps power.old) (R.seen region.old) (P.steps power.new) (R.seen region.new)) }
+    ensures reads { P.reads power.new ≡ P.reads power.old }
     ensures cause { HasCause (R.faults region.old) (R.faults region.new) result }
     ensures power { IsTrue R.obeys_power → HasCause (P.refused power.old) (P.refused power.new) result }
 {
     for (i, word) in words.iter().enumerate() {
         region.write(power, from + i as u32, *word)?;
+    }
+    Ok(())
+}
+
+/// Writes the payload's words of eight bytes: a writing step a word, up to one that fails.
+#[inline]
+fn write_whole_words<R: Region, P: Power>(
+    region: &mut R,
+    power: &mut P,
+    payload: &[u8],
+) -> Result<(), DeviceFault>
+    requires size { length (words_of (R.seen region.old)) ≡ 518 }
+    requires within { length payload.now ≤ 4096 }
+    requires closed { AllImages (R.seen region.old) IsClosed }
+    ensures ok { OnOk result (HasWritten 6 (payload_words (words_for (length payload.now)) payload.now) (length payload.now / 8)
+        (P.steps power.old) (R.seen region.old) (P.steps power.new) (R.seen region.new)) }
+    ensures err { OnErr result (HasStopped (words_for (length payload.now))
+        (P.steps power.old) (R.seen region.old) (P.steps power.new) (R.seen region.new)) }
+    ensures reads { P.reads power.new ≡ P.reads power.old }
+    ensures cause { HasCause (R.faults region.old) (R.faults region.new) result }
+    ensures power { IsTrue R.obeys_power → HasCause (P.refused power.old) (P.refused power.new) result }
+{
+    for k in 0..(payload.len() / 8) as u32 {
+        let word = LittleEndian::read_u64(&payload[8 * k as usize..]);
+        region.write(power, PAYLOAD + k, word)?;
     }
     Ok(())
 }
@@ -114,11 +137,15 @@ fn write_payload<R: Region, P: Power>(
     ensures payload { OnOk result (HoldsPayload payload.now (words_of (R.seen region.new))) }
     ensures err { OnErr result (HasStopped (words_for (length payload.now))
         (P.steps power.old) (R.seen region.old) (P.steps power.new) (R.seen region.new)) }
+    ensures reads { P.reads power.new ≡ P.reads power.old }
     ensures cause { HasCause (R.faults region.old) (R.faults region.new) result }
     ensures power { IsTrue R.obeys_power → HasCause (P.refused power.old) (P.refused power.new) result }
 {
-    for k in 0..payload.len().div_ceil(8) {
-        region.write(power, PAYLOAD + k as u32, word_of(&payload[8 * k..]))?;
+    write_whole_words(region, power, payload)?;
+    let whole = payload.len() / 8;
+    if 8 * whole < payload.len() {
+        let word = last_word(&payload[8 * whole..]);
+        region.write(power, PAYLOAD + whole as u32, word)?;
     }
     Ok(())
 }
@@ -141,6 +168,7 @@ pub(crate) fn write_request<R: Region, P: Power>(
     ensures moments { Moments IsImage IsClosed (P.steps power.old) (R.seen region.old) (P.steps power.new) (R.seen region.new) }
     ensures size { length (words_of (R.seen region.new)) ≡ 518 }
     ensures closed { AllImages (R.seen region.new) IsClosed }
+    ensures reads { P.reads power.new ≡ P.reads power.old }
     ensures cause { HasCause (R.faults region.old) (R.faults region.new) result }
     ensures power { IsTrue R.obeys_power → HasCause (P.refused power.old) (P.refused power.new) result }
 {

@@ -1,8 +1,11 @@
-use crate::{Found, Slot, found, is_stageable};
+ghost use Rattle.std.specs.Prelude.{IfOk};
+ghost use Rattle.cfs_pmem.specs.Images.{IsSure};
+ghost use Rattle.cfs_slot.specs.Regions.{of_staged};
+
+use crate::{Doubt, Found, Live, Slot, Staged, found, is_stageable};
 use cfs_file::{Bytes, Request};
-use cfs_pmem::{MemRegion, Meter, Pick};
-use std::alloc::Global;
-use std::process::Abort;
+use cfs_pmem::{MemRegion, Meter, Pick, Region};
+use std::alloc::{AllocError, Global};
 use std::test::Fail;
 
 const INO: u64 = 2;
@@ -11,9 +14,8 @@ const PLACE: u64 = 7;
 
 const GRANT: u64 = 9;
 
-fn empty(alloc: Global) -> Result<Slot<MemRegion>, Fail> {
-    let region = MemRegion::new(alloc, 323, vec![in alloc; 0; 518]?)?;
-    Ok(Slot::new(region))
+fn empty(alloc: Global) -> Result<Slot<MemRegion>, AllocError> {
+    Ok(Slot::new(MemRegion::new(alloc, 323, vec![in alloc; 0; 518]?)?))
 }
 
 fn write(alloc: Global, offset: u64, text: &[u8]) -> Result<Request, Fail> {
@@ -26,95 +28,125 @@ fn append(alloc: Global, text: &[u8]) -> Result<Request, Fail> {
     Ok(Request::Append { bytes })
 }
 
-/// A slot after so many of these calls: stage, set the offset, open the gate, mark, close the gate.
-fn after(alloc: Global, request: &Request, calls: u32) -> Result<MemRegion, Fail> {
-    let mut meter = Meter::calm(alloc);
-    if !is_stageable(request) {
-        return Err("not stageable")?;
+fn stage<R: Region>(
+    slot: Slot<R>,
+    meter: &mut Meter,
+    request: &Request,
+) -> Result<Staged<R>, Slot<R>>
+    ensures { IfOk result (λ staged. IsSure (R.seen (of_staged staged))) }
+{
+    if is_stageable(request) {
+        slot.stage(meter, INO, request, GRANT)
+    } else {
+        Err(slot)
     }
-    let Ok(mut staged) = empty(alloc)?.stage(&mut meter, INO, request, GRANT) else {
-        return Err("not staged")?;
-    };
-    if calls == 1 {
-        return Ok(staged.into_parts());
-    }
-    staged.set_offset(&mut meter, 77)?;
-    if calls == 2 {
-        return Ok(staged.cancel().into_parts());
-    }
-    let Ok(mut live) = staged.open_gate(&mut meter, PLACE) else {
-        return Err("not opened")?;
-    };
-    if calls > 3 {
-        live.mark_noop(&mut meter)?;
-    }
-    if calls < 5 {
-        return Ok(live.into_parts());
-    }
-    let Ok(slot) = live.close_gate(&mut meter) else {
-        return Err("not closed")?;
-    };
-    Ok(slot.into_parts())
 }
 
-fn check_words(
-    rt: &impl Abort,
-    alloc: Global,
-    request: &Request,
-    calls: u32,
-    words: &[u64],
-) -> Result<(), Fail> {
-    let region = after(alloc, request, calls)?;
-    let first = region.words().get(..words.len()).ok_or("too short")?;
-    assert_eq!(rt; first, words, "{request:?} after {calls}");
-    Ok(())
+/// Sets the offset and opens the gate.
+fn open_at(
+    mut staged: Staged<MemRegion>,
+    meter: &mut Meter,
+    offset: u64,
+) -> Option<Live<MemRegion>> {
+    if staged.set_offset(meter, offset).is_err() {
+        return None;
+    }
+    staged.open_gate(meter, PLACE).ok()
+}
+
+/// A slot after so many of these calls: stage, set the offset, open the gate, mark, close the gate.
+fn after(staged: Staged<MemRegion>, meter: &mut Meter, calls: u32) -> Option<MemRegion> {
+    if calls == 1 {
+        return Some(staged.into_parts());
+    }
+    let mut live = open_at(staged, meter, 77)?;
+    if calls == 3 {
+        return Some(live.into_parts());
+    }
+    if live.mark_noop(meter).is_err() {
+        return None;
+    }
+    if calls == 4 {
+        return Some(live.into_parts());
+    }
+    Some(live.close_gate(meter).ok()?.into_parts())
+}
+
+/// A slot whose request was given up after its offset was set.
+fn given_up(mut staged: Staged<MemRegion>, meter: &mut Meter) -> MemRegion {
+    let _ = staged.set_offset(meter, 77);
+    staged.cancel().into_parts()
+}
+
+/// The slot of this request after so many calls.
+fn region_after(alloc: Global, request: &Request, calls: u32) -> Result<MemRegion, Fail> {
+    let mut meter = Meter::calm(alloc);
+    let staged = stage(empty(alloc)?, &mut meter, request)
+        .ok()
+        .ok_or("not staged")?;
+    if calls == 2 {
+        return Ok(given_up(staged, &mut meter));
+    }
+    Ok(after(staged, &mut meter, calls).ok_or("refused")?)
+}
+
+/// Whether a region's first words are these.
+fn begins_with(region: &MemRegion, words: &[u64]) -> bool {
+    region.words().get(..words.len()) == Some(words)
 }
 
 #[test]
 fn a_request_stands_in_its_words(rt: HostRuntime) -> Result<(), Fail> {
-    let alloc = rt.alloc();
-    let hello = write(alloc, 5, b"hello")?;
-    check_words(
-        &rt,
-        alloc,
-        &hello,
-        1,
-        &[0, 0, 2, 5, 65_541, 9, 0x6f_6c6c_6568, 0],
-    )?;
-    let digits = append(alloc, b"123456789")?;
-    for (calls, gate, mark, offset) in [(1, 0, 0, 0), (2, 0, 0, 77), (3, 7, 0, 77), (4, 7, 1, 77)] {
-        let words = [
-            gate,
-            mark,
-            2,
-            offset,
-            65_545,
-            9,
-            0x3837_3635_3433_3231,
-            0x39,
-        ];
-        check_words(&rt, alloc, &digits, calls, &words)?;
-    }
+    let hello = write(rt.alloc(), 5, b"hello")?;
+    let digits = append(rt.alloc(), b"123456789")?;
     let cut = Request::Truncate { length: 70 };
-    check_words(&rt, alloc, &cut, 1, &[0, 0, 2, 70, 131_072, 9, 0, 0])?;
-    check_words(&rt, alloc, &cut, 5, &[0, 1, 2, 77, 131_072, 9, 0, 0])
+    for (request, calls, words) in [
+        (&hello, 1, [0, 0, 2, 5, 65_541, 9, 0x6f_6c6c_6568, 0]),
+        (
+            &digits,
+            1,
+            [0, 0, 2, 0, 65_545, 9, 0x3837_3635_3433_3231, 0x39],
+        ),
+        (
+            &digits,
+            2,
+            [0, 0, 2, 77, 65_545, 9, 0x3837_3635_3433_3231, 0x39],
+        ),
+        (
+            &digits,
+            3,
+            [7, 0, 2, 77, 65_545, 9, 0x3837_3635_3433_3231, 0x39],
+        ),
+        (
+            &digits,
+            4,
+            [7, 1, 2, 77, 65_545, 9, 0x3837_3635_3433_3231, 0x39],
+        ),
+        (&cut, 1, [0, 0, 2, 70, 131_072, 9, 0, 0]),
+        (&cut, 5, [0, 1, 2, 77, 131_072, 9, 0, 0]),
+    ] {
+        let region = region_after(rt.alloc(), request, calls)?;
+        assert!(rt; begins_with(&region, &words), "after {calls}");
+    }
+    Ok(())
 }
 
-/// A slot in which a write of `hello` was staged and opened with a stop at the nth writing step.
-fn stopped(alloc: Global, n: u64) -> Result<MemRegion, Fail> {
-    let mut meter = Meter::calm(alloc);
-    let request = write(alloc, 5, b"hello")?;
-    if n == 0 || !is_stageable(&request) {
-        return Err("no stop, or not stageable")?;
-    }
-    meter.stop(n);
-    match empty(alloc)?.stage(&mut meter, INO, &request, GRANT) {
-        Ok(staged) => match staged.open_gate(&mut meter, PLACE) {
-            Ok(live) => Ok(live.into_parts()),
-            Err(doubt) => Ok(doubt.into_parts()),
+/// A slot in which a request was staged and opened with a stop at the nth writing step.
+fn stopped(slot: Slot<MemRegion>, meter: &mut Meter, request: &Request, n: u64) -> MemRegion {
+    meter.stop(n.max(1));
+    match stage(slot, meter, request) {
+        Ok(staged) => match staged.open_gate(meter, PLACE) {
+            Ok(live) => live.into_parts(),
+            Err(doubt) => doubt.into_parts(),
         },
-        Err(slot) => Ok(slot.into_parts()),
+        Err(slot) => slot.into_parts(),
     }
+}
+
+/// Whether a crash of this pick leaves these first words.
+fn leaves(mut region: MemRegion, k: u64, words: &[u64]) -> bool {
+    region.crash(&mut Pick::new(k));
+    begins_with(&region, words)
 }
 
 const EMPTY: [u64; 7] = [0, 0, 0, 0, 0, 0, 0];
@@ -123,17 +155,10 @@ const STAGED: [u64; 7] = [0, 0, 2, 5, 65_541, 9, 0x6f_6c6c_6568];
 
 const OPEN: [u64; 7] = [7, 0, 2, 5, 65_541, 9, 0x6f_6c6c_6568];
 
-fn check_crash(rt: &impl Abort, alloc: Global, n: u64, k: u64, left: &[u64]) -> Result<(), Fail> {
-    let mut region = stopped(alloc, n)?;
-    region.crash(&mut Pick::new(k));
-    let first = region.words().get(..left.len()).ok_or("too short")?;
-    assert_eq!(rt; first, left, "stop {n}, pick {k}");
-    Ok(())
-}
-
 // The stage makes seven steps and the gate two. What a crash leaves that keeps what was durable, and one that keeps what was present.
 #[test]
 fn a_stop_leaves_the_gate_closed_or_the_request_whole(rt: HostRuntime) -> Result<(), Fail> {
+    let hello = write(rt.alloc(), 5, b"hello")?;
     for (n, durable, present) in [
         (1, EMPTY, EMPTY),
         (2, EMPTY, EMPTY),
@@ -146,55 +171,176 @@ fn a_stop_leaves_the_gate_closed_or_the_request_whole(rt: HostRuntime) -> Result
         (9, STAGED, OPEN),
         (10, OPEN, OPEN),
     ] {
-        check_crash(&rt, rt.alloc(), n, 0, &durable)?;
-        check_crash(&rt, rt.alloc(), n, 1, &present)?;
+        for (k, words) in [(0, durable), (1, present)] {
+            let mut meter = Meter::calm(rt.alloc());
+            let region = stopped(empty(rt.alloc())?, &mut meter, &hello, n);
+            assert!(rt; leaves(region, k, &words), "stop {n}, pick {k}");
+        }
     }
     Ok(())
 }
 
-/// A doubt that is settled after the kth step of the settling was refused, if it has one.
-fn settled(alloc: Global, k: u64) -> Result<MemRegion, Fail> {
-    let mut meter = Meter::calm(alloc);
-    let request = Request::Truncate { length: 3 };
-    let Ok(staged) = empty(alloc)?.stage(&mut meter, INO, &request, GRANT) else {
-        return Err("not staged")?;
+/// The calls that set one word of a slot that holds a request.
+#[derive(Clone, Copy, Debug)]
+enum Call {
+    Offset,
+    Mark,
+    Close,
+    Settle,
+}
+
+/// A slot after this call, with a stop at its nth writing step. A doubt is one whose gate was written and not persisted.
+fn refused(
+    slot: Slot<MemRegion>,
+    meter: &mut Meter,
+    request: &Request,
+    call: Call,
+    n: u64,
+) -> Option<MemRegion> {
+    let Ok(staged) = stage(slot, meter, request) else {
+        return None;
     };
+    match call {
+        Call::Offset => Some(refused_offset(staged, meter, n)),
+        Call::Mark => Some(refused_mark(staged.open_gate(meter, PLACE).ok()?, meter, n)),
+        Call::Close => Some(refused_close(staged.open_gate(meter, PLACE).ok()?, meter, n)),
+        Call::Settle => Some(refused_settle(doubted(staged, meter)?, meter, n)),
+    }
+}
+
+fn refused_offset(mut staged: Staged<MemRegion>, meter: &mut Meter, n: u64) -> MemRegion {
+    meter.stop(n.max(1));
+    let _ = staged.set_offset(meter, 77);
+    staged.into_parts()
+}
+
+fn refused_mark(mut live: Live<MemRegion>, meter: &mut Meter, n: u64) -> MemRegion {
+    meter.stop(n.max(1));
+    let _ = live.mark_noop(meter);
+    live.into_parts()
+}
+
+fn refused_close(live: Live<MemRegion>, meter: &mut Meter, n: u64) -> MemRegion {
+    meter.stop(n.max(1));
+    match live.close_gate(meter) {
+        Ok(slot) => slot.into_parts(),
+        Err(live) => live.into_parts(),
+    }
+}
+
+fn refused_settle(doubt: Doubt<MemRegion>, meter: &mut Meter, n: u64) -> MemRegion {
+    meter.stop(n.max(1));
+    match doubt.settle(meter) {
+        Ok(slot) => slot.into_parts(),
+        Err(doubt) => doubt.into_parts(),
+    }
+}
+
+/// A slot whose gate was written, and whose persist was refused.
+fn doubted<R: Region + Drop>(staged: Staged<R>, meter: &mut Meter) -> Option<Doubt<R>>
+    requires { IsSure (R.seen (of_staged staged)) }
+{
     meter.stop(2);
-    let Err(doubt) = staged.open_gate(&mut meter, PLACE) else {
-        return Err("no doubt")?;
-    };
+    let opened = staged.open_gate(meter, PLACE);
     meter.revive();
-    meter.stop(k.max(1));
-    match doubt.settle(&mut meter) {
-        Ok(slot) => Ok(slot.into_parts()),
+    opened.err()
+}
+
+/// The same of the gate, the mark, the inode number and the offset.
+fn fields_left(region: MemRegion, k: u64, fields: [u64; 4]) -> bool {
+    leaves(region, k, &fields)
+}
+
+// What is left of the four fields, where a crash keeps what was durable and where it keeps what was present. Each call makes
+// two steps: the word and the persist.
+#[test]
+fn a_refused_call_leaves_its_word_old_or_new(rt: HostRuntime) -> Result<(), Fail> {
+    let hello = write(rt.alloc(), 5, b"hello")?;
+    for (call, n, durable, present) in [
+        (Call::Offset, 1, [0, 0, 2, 5], [0, 0, 2, 5]),
+        (Call::Offset, 2, [0, 0, 2, 5], [0, 0, 2, 77]),
+        (Call::Offset, 3, [0, 0, 2, 77], [0, 0, 2, 77]),
+        (Call::Mark, 1, [7, 0, 2, 5], [7, 0, 2, 5]),
+        (Call::Mark, 2, [7, 0, 2, 5], [7, 1, 2, 5]),
+        (Call::Mark, 3, [7, 1, 2, 5], [7, 1, 2, 5]),
+        (Call::Close, 1, [7, 0, 2, 5], [7, 0, 2, 5]),
+        (Call::Close, 2, [7, 0, 2, 5], [0, 0, 2, 5]),
+        (Call::Close, 3, [0, 0, 2, 5], [0, 0, 2, 5]),
+        (Call::Settle, 1, [0, 0, 2, 5], [7, 0, 2, 5]),
+        (Call::Settle, 2, [0, 0, 2, 5], [0, 0, 2, 5]),
+        (Call::Settle, 3, [0, 0, 2, 5], [0, 0, 2, 5]),
+    ] {
+        let mut meter = Meter::calm(rt.alloc());
+        let region = refused(empty(rt.alloc())?, &mut meter, &hello, call, n).ok_or("no slot")?;
+        assert!(rt;
+            fields_left(region, 0, durable),
+            "{call:?}, stop {n}, durable"
+        );
+        meter.revive();
+        let region = refused(empty(rt.alloc())?, &mut meter, &hello, call, n).ok_or("no slot")?;
+        assert!(rt;
+            fields_left(region, 1, present),
+            "{call:?}, stop {n}, present"
+        );
+    }
+    Ok(())
+}
+
+/// The slot of a doubt that is settled, once more if a stop at the nth step refused it.
+fn settled(doubt: Doubt<MemRegion>, meter: &mut Meter, n: u64) -> Option<MemRegion> {
+    meter.stop(n.max(1));
+    match doubt.settle(meter) {
+        Ok(slot) => Some(slot.into_parts()),
         Err(doubt) => {
             meter.revive();
-            match doubt.settle(&mut meter) {
-                Ok(slot) => Ok(slot.into_parts()),
-                Err(_) => Err("not settled")?,
-            }
+            Some(doubt.settle(meter).ok()?.into_parts())
         }
     }
+}
+
+fn doubt_of(
+    slot: Slot<MemRegion>,
+    meter: &mut Meter,
+    request: &Request,
+) -> Option<Doubt<MemRegion>> {
+    let Ok(staged) = stage(slot, meter, request) else {
+        return None;
+    };
+    doubted(staged, meter)
 }
 
 #[test]
 fn a_doubt_is_settled(rt: HostRuntime) -> Result<(), Fail> {
-    for k in 1..4 {
-        let mut region = settled(rt.alloc(), k)?;
-        region.crash(&mut Pick::new(0));
-        assert_eq!(rt; region.words().first(), Some(&0), "refused at {k}");
+    for n in 1..4 {
+        let mut meter = Meter::calm(rt.alloc());
+        let doubt = doubt_of(
+            empty(rt.alloc())?,
+            &mut meter,
+            &Request::Truncate { length: 3 },
+        );
+        let region = settled(doubt.ok_or("no doubt")?, &mut meter, n);
+        assert!(rt;
+            leaves(region.ok_or("not settled")?, 0, &[0, 0, 2, 3]),
+            "refused at {n}"
+        );
     }
     Ok(())
 }
 
+/// What recovery finds in a region.
+fn found_in(mut region: MemRegion, meter: &mut Meter) -> Option<Found> {
+    if region.words().len() == 518 {
+        found(&mut region, meter).ok()
+    } else {
+        None
+    }
+}
+
 #[test]
 fn recovery_finds_the_fields(rt: HostRuntime) -> Result<(), Fail> {
-    let alloc = rt.alloc();
+    let request = append(rt.alloc(), b"abc")?;
     for (calls, gate, mark) in [(2, 0, 0), (3, PLACE, 0), (4, PLACE, 1), (5, 0, 1)] {
-        let mut region = after(alloc, &append(alloc, b"abc")?, calls)?;
-        if region.words().len() != 518 {
-            return Err("no slot")?;
-        }
+        let region = region_after(rt.alloc(), &request, calls)?;
         let fields = Found {
             gate,
             mark,
@@ -204,8 +350,8 @@ fn recovery_finds_the_fields(rt: HostRuntime) -> Result<(), Fail> {
             count: 3,
             grant: GRANT,
         };
-        let mut meter = Meter::calm(alloc);
-        assert_eq!(rt; found(&mut region, &mut meter), Ok(fields), "after {calls}");
+        let mut meter = Meter::calm(rt.alloc());
+        assert_eq!(rt; found_in(region, &mut meter), Some(fields), "after {calls}");
     }
     Ok(())
 }

@@ -16,6 +16,7 @@ loop-i-preserved g c =
     record {
       written = written_more c.args.from c.args.words.now c.loop-i.i (get_or c.args.words.now c.loop-i.i 0) _ _ _ _ _ _ c.requires.behind within refl
           c.loop-i.invariant.written c.in_ok-write.ensures.ok c.write.ensures.steps;
+      reads = c.write.ensures.reads ∙ c.loop-i.invariant.reads;
       faults = c.in_ok-write.ensures.cause.passed ∙ c.loop-i.invariant.faults;
       refused = λ obeys. (c.in_ok-write.ensures.power obeys).passed ∙ c.loop-i.invariant.refused obeys;
     }
