@@ -1,23 +1,24 @@
 -- The table after a node has joined or left.
 use Rattle.std.proofs.Common.{◌≡◌, ℕ, ◌+◌, ◌<◌, ◌^◌, List, [], ◌∷◌, false, not, inl, inr, refl, sym, ◌∙◌, ap, subst, arith}
 use Rattle.std.proofs.Math.ListN.{set, length-set}
-use Rattle.std.specs.Prelude.{Option, Some, None, Ok, nat_eq, nat_lt}
-use Rattle.std.specs.Option.{option_map}
+use Rattle.std.specs.Prelude.{Option, Some, None, Result, Ok, OnOk, nat_eq, nat_lt, slice_get}
+use Rattle.std.specs.Option.{option_and_then, option_map}
+use Rattle.std.specs.Map.{lookup}
 use Rattle.std.proofs.lemmas.Bool.{cases_Bool, cond-true, cond-false, eq-eqb}
 use Rattle.cfs_cred.specs.declared.credential.Credential.{Credential}
 use Rattle.cfs_dir.specs.declared.node.Node.{Node}
 use Rattle.cfs_dir.specs.declared.place.Place.TheVariants.{Entry}
 use Rattle.cfs_dir.specs.Path.{ArePathNames}
-use Rattle.cfs_dir.specs.Namespace.{Namespace, node_at, child_of, has_child, is_directory, placed, without, with_node, without_last}
+use Rattle.cfs_dir.specs.Namespace.{Namespace, node_at, node_of, child_of, has_child, is_directory, placed, without, with_node, without_last}
 use Rattle.cfs_dir.specs.Step.{place_of}
-use Rattle.cfs_dir.specs.Table.{Index, IsTable, nodes_of}
+use Rattle.cfs_dir.specs.Table.{Index, IsTable, nodes_of, same_child}
 use Rattle.cfs_dir.specs.Tree.{CanBeTakenBack, CanJoin, CanLeave, IsTree}
 use Rattle.cfs_dir.proofs.Found.{node_at-In}
-use Rattle.cfs_dir.proofs.Grown.{IsNew, IsTree-placed, child_of-new}
+use Rattle.cfs_dir.proofs.Grown.{IsNew, IsTree-placed, child_of-new, next-free}
 use Rattle.cfs_dir.proofs.Indexed.{IsUpdated, key_of, IsIndex-placed, IsIndex-without}
 use Rattle.cfs_dir.proofs.Members.{In, All-In, find-Some, find-placed_same}
 use Rattle.cfs_dir.proofs.Shrunk.{IsLeaf, file-leaf, no_child, IsTree-without}
-use Rattle.cfs_dir.proofs.Slots.{node_at-nodes_of, nodes_of-set_some, nodes_of-set_none, AreAtRecords-set_some, AreAtRecords-set_none}
+use Rattle.cfs_dir.proofs.Slots.{node_at-nodes_of, slot_is_node, nodes_of-set_some, nodes_of-set_none, AreAtRecords-set_some, AreAtRecords-set_none}
 use Rattle.cfs_dir.proofs.Walked.{IsPlace, child-parts, is_directory-false, place_of-Entry}
 
 -- what the fields of a tree are seen as
@@ -49,49 +50,77 @@ nodes_of-joined slots index next node table joins =
     nodes_of-set_some 0 slots node.rec node table.at_records (omega arith)
     (sym (node_at-nodes_of 0 slots node.rec node.rec table.at_records (omega arith)) ∙ joins.free) (omega arith)
 
-pub IsTable-joined : (slots : List (Option Node)) (index new : Index) (next : ℕ) (namespace : Namespace) (node : Node) → IsTable slots index next
-    → seen slots next ≡ namespace → CanJoin namespace node → IsUpdated index new (key_of node) (Some node.rec)
-    → IsTable (set slots node.rec (Some node)) new (next + 1)
-IsTable-joined slots index new next namespace node table e joins' updated =
+pub on_ok : {T E : Type 0} (P : Type 0) (result : Result T E) (value : T) → result ≡ Ok value → OnOk result P → P
+on_ok P result value e h = subst (λ r. OnOk r P) e h
+
+-- an index with the same entries serves as well
+pub IsTable-kept : (slots : List (Option Node)) (index new : Index) (next : ℕ) → IsTable slots index next → new.entries ≡ index.entries → IsTable slots new next
+IsTable-kept slots index new next table same = record {
+  size = table.size;
+  at_records = table.at_records;
+  tree = table.tree;
+  indexed = λ child. ap (λ entries. lookup (same_child child) entries) same ∙ table.indexed child;
+}
+
+-- a node that joins has a free record and an unused number
+pub joins-free : (slots : List (Option Node)) (index : Index) (next : ℕ) (namespace : Namespace) (node : Node) → IsTable slots index next
+    → seen slots next ≡ namespace → CanJoin namespace node → option_and_then (λ slot. slot) (slice_get slots node.rec) ≡ None
+joins-free slots index next namespace node table e joins =
+    slot_is_node slots node.rec table.at_records ∙ ap (λ (v : Namespace). node_at v.nodes node.rec) e ∙ joins.free
+
+pub joins-unused : (slots : List (Option Node)) (index : Index) (next : ℕ) (namespace : Namespace) (node : Node) → IsTable slots index next
+    → seen slots next ≡ namespace → CanJoin namespace node → node_of (nodes_of slots) node.ino ≡ None
+joins-unused slots index next namespace node table e joins =
+    ap (λ i. node_of (nodes_of slots) i) (joins.number ∙ sym (ap (λ (v : Namespace). v.next) e)) ∙ next-free (nodes_of slots) next table.tree
+
+pub IsTable-joined : (slots : List (Option Node)) (index new : Index) (next : ℕ) (after : List (Option Node)) (namespace : Namespace) (node : Node)
+    → IsTable slots index next → seen slots next ≡ namespace → CanJoin namespace node → after ≡ set slots node.rec (Some node)
+    → IsUpdated index new (key_of node) (Some node.rec) → IsTable after new (next + 1)
+IsTable-joined slots index new next after namespace node table e joins' same updated =
     let joins : CanJoin (seen slots next) node = subst (λ v. CanJoin v node) (sym e) joins' in
     let nodes = nodes_of-joined slots index next node table joins in
-    record {
+    rw same (record {
       size = length-set slots node.rec (Some node) ∙ table.size;
       at_records = AreAtRecords-set_some 0 slots node.rec node table.at_records (omega arith);
       tree = subst (λ ns. IsTree ns (next + 1)) (sym nodes) joins.whole;
       indexed = λ child. IsIndex-placed (nodes_of slots) node index new joins.unnamed table.indexed updated child
           ∙ ap (λ ns. option_map (λ (n : Node). n.rec) (child_of ns child.parent child.name)) (sym nodes);
-    }
+    })
 
-pub seen-joined : (slots : List (Option Node)) (index : Index) (next : ℕ) (namespace : Namespace) (node : Node) → IsTable slots index next
-    → seen slots next ≡ namespace → CanJoin namespace node → seen (set slots node.rec (Some node)) (next + 1) ≡ with_node namespace node
-seen-joined slots index next namespace node table e joins =
-    ap (λ ns. record { nodes = ns; next = next + 1 }) (nodes_of-joined slots index next node table (subst (λ v. CanJoin v node) (sym e) joins))
+pub seen-joined : (slots : List (Option Node)) (index : Index) (next : ℕ) (after : List (Option Node)) (namespace : Namespace) (node : Node)
+    → IsTable slots index next → seen slots next ≡ namespace → CanJoin namespace node → after ≡ set slots node.rec (Some node)
+    → seen after (next + 1) ≡ with_node namespace node
+seen-joined slots index next after namespace node table e joins same =
+    ap (λ s. seen s (next + 1)) same
+    ∙ ap (λ ns. record { nodes = ns; next = next + 1 }) (nodes_of-joined slots index next node table (subst (λ v. CanJoin v node) (sym e) joins))
     ∙ ap (λ v. with_node v node) e
 
 pub nodes_of-left : (slots : List (Option Node)) (index : Index) (next : ℕ) (node : Node) → IsTable slots index next
     → nodes_of (set slots node.rec None) ≡ without node.rec (nodes_of slots)
 nodes_of-left slots index next node table = nodes_of-set_none 0 slots node.rec node.rec table.at_records (omega arith)
 
-pub IsTable-left : (slots : List (Option Node)) (index new : Index) (next after : ℕ) (namespace : Namespace) (node : Node) → IsTable slots index next
-    → seen slots next ≡ namespace → node_at namespace.nodes node.rec ≡ Some node → IsTree (without node.rec namespace.nodes) after
-    → IsUpdated index new (key_of node) None → IsTable (set slots node.rec None) new after
-IsTable-left slots index new next after namespace node table e stands' whole updated =
+pub IsTable-left : (slots : List (Option Node)) (index new : Index) (next then : ℕ) (after : List (Option Node)) (namespace : Namespace) (node : Node)
+    → IsTable slots index next → seen slots next ≡ namespace → node_at namespace.nodes node.rec ≡ Some node
+    → IsTree (without node.rec namespace.nodes) then → after ≡ set slots node.rec None
+    → IsUpdated index new (key_of node) None → IsTable after new then
+IsTable-left slots index new next then after namespace node table e stands' whole same updated =
     let nodes = nodes_of-left slots index next node table in
     let at : node_at (nodes_of slots) node.rec ≡ Some node = ap (λ (v : Namespace). node_at v.nodes node.rec) e ∙ stands' in
     let stands = (find-Some (λ n. nat_eq n.rec node.rec) (nodes_of slots) node at).0 in
-    record {
+    rw same (record {
       size = length-set slots node.rec None ∙ table.size;
       at_records = AreAtRecords-set_none 0 slots node.rec table.at_records;
-      tree = subst (λ ns. IsTree ns after) (ap (λ (v : Namespace). without node.rec v.nodes) (sym e) ∙ sym nodes) whole;
+      tree = subst (λ ns. IsTree ns then) (ap (λ (v : Namespace). without node.rec v.nodes) (sym e) ∙ sym nodes) whole;
       indexed = λ child. IsIndex-without (nodes_of slots) next node index new table.tree stands table.indexed updated child
           ∙ ap (λ ns. option_map (λ (n : Node). n.rec) (child_of ns child.parent child.name)) (sym nodes);
-    }
+    })
 
-pub seen-left : (slots : List (Option Node)) (index : Index) (next after : ℕ) (namespace : Namespace) (node : Node) → IsTable slots index next
-    → seen slots next ≡ namespace → seen (set slots node.rec None) after ≡ record { nodes = without node.rec namespace.nodes; next = after }
-seen-left slots index next after namespace node table e =
-    ap (λ ns. record { nodes = ns; next = after }) (nodes_of-left slots index next node table ∙ ap (λ (v : Namespace). without node.rec v.nodes) e)
+pub seen-left : (slots : List (Option Node)) (index : Index) (next then : ℕ) (after : List (Option Node)) (namespace : Namespace) (node : Node)
+    → IsTable slots index next → seen slots next ≡ namespace → after ≡ set slots node.rec None
+    → seen after then ≡ record { nodes = without node.rec namespace.nodes; next = then }
+seen-left slots index next then after namespace node table e same =
+    ap (λ s. seen s then) same
+    ∙ ap (λ ns. record { nodes = ns; next = then }) (nodes_of-left slots index next node table ∙ ap (λ (v : Namespace). without node.rec v.nodes) e)
 
 -- a node that has joined can be taken back, which gives the tree before
 pub without-absent : (nodes : List Node) (rec : ℕ) → node_at nodes rec ≡ None → without rec nodes ≡ nodes
@@ -132,16 +161,18 @@ CanBeTakenBack-joined namespace node tree joins = record {
 }
 
 -- the same, for the fields of a tree
-pub joined-undone : (slots : List (Option Node)) (index : Index) (next : ℕ) (namespace : Namespace) (node : Node) → IsTable slots index next
-    → seen slots next ≡ namespace → CanJoin namespace node → without_last (seen (set slots node.rec (Some node)) (next + 1)) node ≡ namespace
-joined-undone slots index next namespace node table e joins =
-    ap (λ v. without_last v node) (seen-joined slots index next namespace node table e joins) ∙ without_last-joined namespace node joins
+pub joined-undone : (slots : List (Option Node)) (index : Index) (next : ℕ) (after : List (Option Node)) (namespace : Namespace) (node : Node)
+    → IsTable slots index next → seen slots next ≡ namespace → CanJoin namespace node → after ≡ set slots node.rec (Some node)
+    → without_last (seen after (next + 1)) node ≡ namespace
+joined-undone slots index next after namespace node table e joins same =
+    ap (λ v. without_last v node) (seen-joined slots index next after namespace node table e joins same) ∙ without_last-joined namespace node joins
 
-pub joined-undoable : (slots : List (Option Node)) (index : Index) (next : ℕ) (namespace : Namespace) (node : Node) → IsTable slots index next
-    → seen slots next ≡ namespace → CanJoin namespace node → CanBeTakenBack (seen (set slots node.rec (Some node)) (next + 1)) node
-joined-undoable slots index next namespace node table e joins =
+pub joined-undoable : (slots : List (Option Node)) (index : Index) (next : ℕ) (after : List (Option Node)) (namespace : Namespace) (node : Node)
+    → IsTable slots index next → seen slots next ≡ namespace → CanJoin namespace node → after ≡ set slots node.rec (Some node)
+    → CanBeTakenBack (seen after (next + 1)) node
+joined-undoable slots index next after namespace node table e joins same =
     let tree : IsTree namespace.nodes namespace.next = subst (λ (v : Namespace). IsTree v.nodes v.next) e table.tree in
-    subst (λ v. CanBeTakenBack v node) (sym (seen-joined slots index next namespace node table e joins)) (CanBeTakenBack-joined namespace node tree joins)
+    subst (λ v. CanBeTakenBack v node) (sym (seen-joined slots index next after namespace node table e joins same)) (CanBeTakenBack-joined namespace node tree joins)
 
 -- a leaf of the tree may leave it
 pub CanLeave-leaf : (namespace : Namespace) (node : Node) → IsTree namespace.nodes namespace.next → IsLeaf namespace.nodes node → CanLeave namespace node

@@ -5,6 +5,7 @@ pub mod Grown
 pub mod Indexed
 pub mod Listed
 pub mod Members
+pub mod Numbers
 pub mod Reading
 pub mod Shrunk
 pub mod Slots

@@ -1,9 +1,9 @@
 -- A table that is made of a list of nodes, one after another.
-use Rattle.std.proofs.Common.{◌≡◌, ◌≢◌, ℕ, zero, suc, ◌+◌, ◌≤◌, ◌<◌, List, [], ◌∷◌, length, take, get_or, true, inl, inr, refl, sym, ◌∙◌, ap, subst, arith, add-one, ◌^◌}
+use Rattle.std.proofs.Common.{◌≡◌, ◌≢◌, ℕ, zero, suc, ◌+◌, ◌≤◌, ◌<◌, List, [], ◌∷◌, length, take, get_or, Bool, true, inl, inr, refl, sym, ◌∙◌, ap, subst, arith, add-one, ◌^◌}
 use Rattle.std.proofs.Math.ListN.{set, length-set}
-use Rattle.std.specs.Prelude.{Option, Some, None, IsSomeAnd, nat_eq, nat_lt, replicate}
-use Rattle.std.specs.Option.{option_map}
-use Rattle.std.proofs.lemmas.Bool.{cases_Bool, cond-true, lt-ltb, ne_eqb}
+use Rattle.std.specs.Prelude.{Option, Some, None, IsSomeAnd, find, nat_eq, nat_lt, replicate, slice_get}
+use Rattle.std.specs.Option.{option_and_then, option_map}
+use Rattle.std.proofs.lemmas.Bool.{cases_Bool, cond-true, eqb-true, lt-ltb, ne_eqb}
 use Rattle.std.proofs.lemmas.List.Elements.{All-cons, All-nil}
 use Rattle.cfs_dir.specs.declared.kind.Kind.TheVariants.{Directory}
 use Rattle.cfs_dir.specs.declared.node.Node.{Node}
@@ -15,7 +15,7 @@ use Rattle.cfs_dir.proofs.Depth.{leads-root}
 use Rattle.cfs_dir.proofs.Grown.{is_child-parts}
 use Rattle.cfs_dir.proofs.Indexed.{IsUpdated, key_of, IsIndex-placed}
 use Rattle.cfs_dir.proofs.Members.{In, All-In, find-none_of}
-use Rattle.cfs_dir.proofs.Slots.{slot_at, node_at-nodes_of, nodes_of-set_some, AreAtRecords-set_some}
+use Rattle.cfs_dir.proofs.Slots.{slot_at, slot_at-slice_get, slot_is_node, nodes_of-set_some, AreAtRecords-set_some}
 
 pub nodes_of-empty : (n : ℕ) → nodes_of (replicate n None) ≡ []
 nodes_of-empty zero = refl
@@ -64,22 +64,35 @@ In-get_or i [] d lt = absurd (omega arith)
 In-get_or zero (first ∷ rest) d lt = inl refl
 In-get_or (suc i) (first ∷ rest) d lt = inr (In-get_or i rest d (omega arith))
 
--- no node before has the name
-pub child_of-before : (i : ℕ) (nodes : List Node) (d : Node) → AreListed nodes → i < length nodes
-    → child_of (take i nodes) (get_or nodes i d).parent (get_or nodes i d).name ≡ None
-child_of-before i nodes d h lt = find-none_of (is_child (get_or nodes i d).parent (get_or nodes i d).name) (take i nodes) (λ n m.
-    elim (cases_Bool (is_child (get_or nodes i d).parent (get_or nodes i d).name n)) [
+-- nothing passes before the one node that passes
+pub find-before : (p : Node → Bool) (i : ℕ) (nodes : List Node) (d : Node) → AreListed nodes → i < length nodes
+    → ((n : Node) → In nodes n → p n ≡ true → Some n ≡ Some (get_or nodes i d)) → find p (take i nodes) ≡ None
+find-before p i nodes d h lt only = find-none_of p (take i nodes) (λ n m.
+    elim (cases_Bool (p n)) [
       | inl t ↦
-          let same = is_child-parts (get_or nodes i d).parent (get_or nodes i d).name n t in
-          let once : (x : Node) → In nodes x → child_of nodes x.parent x.name ≡ Some x = λ x s. All-In (λ x. child_of nodes x.parent x.name ≡ Some x) nodes x h.name_once s in
-          let both : Some n ≡ Some (get_or nodes i d) = sym (once n (In-take i nodes n m)) ∙ ap (λ p. child_of nodes p n.name) same.0
-          ∙ ap (λ x. child_of nodes (get_or nodes i d).parent x) same.1 ∙ once (get_or nodes i d) (In-get_or i nodes d lt) in
+          let both : Some n ≡ Some (get_or nodes i d) = only n (In-take i nodes n m) t in
           let one : n ≡ get_or nodes i d = cc in
           let below : n.rec < (get_or nodes i d).rec = rec-before 0 i nodes d n h.ascending lt m in
           let equal : n.rec ≡ (get_or nodes i d).rec = ap (λ (x : Node). x.rec) one in
           absurd (omega arith)
       | inr f ↦ f
     ])
+
+-- no node before has the name
+pub child_of-before : (i : ℕ) (nodes : List Node) (d : Node) → AreListed nodes → i < length nodes
+    → child_of (take i nodes) (get_or nodes i d).parent (get_or nodes i d).name ≡ None
+child_of-before i nodes d h lt = find-before (is_child (get_or nodes i d).parent (get_or nodes i d).name) i nodes d h lt (λ n m t.
+    let same = is_child-parts (get_or nodes i d).parent (get_or nodes i d).name n t in
+    let once : (x : Node) → In nodes x → child_of nodes x.parent x.name ≡ Some x = λ x s. All-In (λ x. child_of nodes x.parent x.name ≡ Some x) nodes x h.name_once s in
+    sym (once n m) ∙ ap (λ p. child_of nodes p n.name) same.0
+    ∙ ap (λ x. child_of nodes (get_or nodes i d).parent x) same.1 ∙ once (get_or nodes i d) (In-get_or i nodes d lt))
+
+-- no node before has the inode number
+pub node_of-before : (i : ℕ) (nodes : List Node) (d : Node) → AreListed nodes → i < length nodes
+    → node_of (take i nodes) (get_or nodes i d).ino ≡ None
+node_of-before i nodes d h lt = find-before (λ n. nat_eq n.ino (get_or nodes i d).ino) i nodes d h lt (λ n m t.
+    let once : (x : Node) → In nodes x → node_of nodes x.ino ≡ Some x = λ x s. All-In (λ x. node_of nodes x.ino ≡ Some x) nodes x h.number_once s in
+    sym (once n m) ∙ ap (λ k. node_of nodes k) (eqb-true n.ino (get_or nodes i d).ino t) ∙ once (get_or nodes i d) (In-get_or i nodes d lt))
 
 pub IsTableOf-empty : (slots : List (Option Node)) (index : Index) → slots ≡ replicate 256 None → IsIndex [] index → IsTableOf slots index []
 IsTableOf-empty slots index e indexed = rw e (record {
@@ -89,30 +102,43 @@ IsTableOf-empty slots index e indexed = rw e (record {
   indexed = indexed;
 })
 
-pub IsTableOf-next : (slots : List (Option Node)) (index new : Index) (nodes : List Node) (i : ℕ) (node : Node) → AreListed nodes → i < length nodes
-    → node ≡ get_or nodes i node → IsTableOf slots index (take i nodes) → IsUpdated index new (key_of node) (Some node.rec)
-    → IsTableOf (set slots node.rec (Some node)) new (take (i + 1) nodes)
-IsTableOf-next slots index new nodes i node h lt is table updated =
-    let within : node.rec < 256 = subst (λ (n : Node). n.rec < 256) (sym is) (All-In (λ n. n.rec < 256) nodes (get_or nodes i node) h.records (In-get_or i nodes node lt)) in
-    let size = table.size in
-    let free : node_at (take i nodes) node.rec ≡ None = find-none_of (λ n. nat_eq n.rec node.rec) (take i nodes) (λ n m.
-    let below = rec-before 0 i nodes node n h.ascending lt m in
-    let same = ap (λ (x : Node). x.rec) is in
-    ne_eqb n.rec node.rec (λ e. let e' : n.rec ≡ node.rec = e in omega arith)) in
-    let empty : slot_at slots node.rec ≡ None =
-    sym (node_at-nodes_of 0 slots node.rec node.rec table.at_records (omega arith)) ∙ ap (λ ns. node_at ns node.rec) table.nodes_are ∙ free in
-    let grown : placed node (take i nodes) ≡ take (i + 1) nodes =
-    ap (λ n. placed n (take i nodes)) is ∙ placed-last 0 i nodes node h.ascending lt ∙ ap (λ k. take k nodes) (sym (add-one i)) in
-    let unnamed : child_of (take i nodes) node.parent node.name ≡ None =
-    ap (λ (n : Node). child_of (take i nodes) n.parent n.name) is ∙ child_of-before i nodes node h lt in
-    record {
-      size = length-set slots node.rec (Some node) ∙ table.size;
-      at_records = AreAtRecords-set_some 0 slots node.rec node table.at_records (omega arith);
-      nodes_are = nodes_of-set_some 0 slots node.rec node table.at_records (omega arith) empty (omega arith)
-          ∙ ap (λ ns. placed node ns) table.nodes_are ∙ grown;
-      indexed = λ child. IsIndex-placed (take i nodes) node index new unnamed table.indexed updated child
-          ∙ ap (λ ns. option_map (λ (n : Node). n.rec) (child_of ns child.parent child.name)) grown;
-    }
+-- the next node is put among those before it
+module _ (slots : List (Option Node)) (index : Index) (nodes : List Node) (i : ℕ) (node : Node) (h : AreListed nodes) (lt : i < length nodes)
+    (is : node ≡ get_or nodes i node) (table : IsTableOf slots index (take i nodes)) where
+  pub next-within : node.rec < 256
+  next-within = subst (λ (n : Node). n.rec < 256) (sym is) (All-In (λ n. n.rec < 256) nodes (get_or nodes i node) h.records (In-get_or i nodes node lt))
+
+  pub next-free_record : node_at (take i nodes) node.rec ≡ None
+  next-free_record = find-none_of (λ n. nat_eq n.rec node.rec) (take i nodes) (λ n m.
+      let below = rec-before 0 i nodes node n h.ascending lt m in
+      let same = ap (λ (x : Node). x.rec) is in
+      ne_eqb n.rec node.rec (λ e. let e' : n.rec ≡ node.rec = e in omega arith))
+
+  pub next-free : option_and_then (λ slot. slot) (slice_get slots node.rec) ≡ None
+  next-free = slot_is_node slots node.rec table.at_records ∙ ap (λ ns. node_at ns node.rec) table.nodes_are ∙ next-free_record
+
+  pub next-unused : node_of (nodes_of slots) node.ino ≡ None
+  next-unused =
+      ap (λ ns. node_of ns node.ino) table.nodes_are ∙ ap (λ (n : Node). node_of (take i nodes) n.ino) is ∙ node_of-before i nodes node h lt
+
+  pub IsTableOf-next : (new : Index) (after : List (Option Node)) → after ≡ set slots node.rec (Some node)
+      → IsUpdated index new (key_of node) (Some node.rec) → IsTableOf after new (take (i + 1) nodes)
+  IsTableOf-next new after same updated =
+      let within = next-within in
+      let size = table.size in
+      let empty : slot_at slots node.rec ≡ None = slot_at-slice_get slots node.rec ∙ next-free in
+      let grown : placed node (take i nodes) ≡ take (i + 1) nodes =
+      ap (λ n. placed n (take i nodes)) is ∙ placed-last 0 i nodes node h.ascending lt ∙ ap (λ k. take k nodes) (sym (add-one i)) in
+      let unnamed : child_of (take i nodes) node.parent node.name ≡ None =
+      ap (λ (n : Node). child_of (take i nodes) n.parent n.name) is ∙ child_of-before i nodes node h lt in
+      rw same (record {
+        size = length-set slots node.rec (Some node) ∙ table.size;
+        at_records = AreAtRecords-set_some 0 slots node.rec node table.at_records (omega arith);
+        nodes_are = nodes_of-set_some 0 slots node.rec node table.at_records (omega arith) empty (omega arith)
+            ∙ ap (λ ns. placed node ns) table.nodes_are ∙ grown;
+        indexed = λ child. IsIndex-placed (take i nodes) node index new unnamed table.indexed updated child
+            ∙ ap (λ ns. option_map (λ (n : Node). n.rec) (child_of ns child.parent child.name)) grown;
+      })
 
 -- the root alone is a tree
 pub IsTree-root : (mode uid gid next : ℕ) → mode ≤ 511 → uid < 2 ^ 32 → gid < 2 ^ 32 → 2 ≤ next → next ≤ 2 ^ 32

@@ -109,11 +109,9 @@ AreAscendingFrom-nodes_of first least (None ∷ slots) h le = AreAscendingFrom-n
 AreAscendingFrom-nodes_of first least (Some node ∷ slots) h le =
     (let at = h.0 in omega arith, AreAscendingFrom-nodes_of (suc first) (suc node.rec) slots h.1 (let at = h.0 in omega arith))
 
-pub slot_is_node : (given slots : List (Option Node)) (rec : ℕ) → AreAtRecords 0 slots → given ≡ slots
-    → option_and_then (λ slot. slot) (slice_get given rec) ≡ node_at (nodes_of slots) rec
-slot_is_node given slots rec h same =
-    ap (λ list. option_and_then (λ slot. slot) (slice_get list rec)) same
-    ∙ sym (slot_at-slice_get slots rec) ∙ sym (node_at-nodes_of 0 slots rec rec h (omega arith))
+pub slot_is_node : (slots : List (Option Node)) (rec : ℕ) → AreAtRecords 0 slots
+    → option_and_then (λ slot. slot) (slice_get slots rec) ≡ node_at (nodes_of slots) rec
+slot_is_node slots rec h = sym (slot_at-slice_get slots rec) ∙ sym (node_at-nodes_of 0 slots rec rec h (omega arith))
 
 pub list_any-stands_in : (slots : List (Option Node)) (parent : ℕ) → list_any (stands_in parent) slots ≡ has_child (nodes_of slots) parent
 list_any-stands_in [] parent = refl

@@ -1,5 +1,6 @@
 pub mod Name
 pub mod Namespace
+pub mod Numbered
 pub mod Padding
 pub mod Path
 pub mod Step

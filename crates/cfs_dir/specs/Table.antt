@@ -7,7 +7,7 @@ use Rattle.std.specs.declared.hash.FoldHasher.{FoldHasher}
 use Rattle.std.specs.declared.hash.BuildHasherDefault.{BuildHasherDefault}
 use Rattle.cfs_dir.specs.declared.child.Child.{Child}
 use Rattle.cfs_dir.specs.declared.node.Node.{Node}
-use Rattle.cfs_dir.specs.Namespace.{child_of}
+use Rattle.cfs_dir.specs.Namespace.{child_of, node_of}
 use Rattle.cfs_dir.specs.Tree.{AreAscendingFrom, IsTree}
 
 -- the nodes that stand in the slots, in order
@@ -44,10 +44,11 @@ pub record IsTable (slots : List (Option Node)) (index : Index) (next : ℕ) : T
   pub tree : IsTree (nodes_of slots) next
   pub indexed : IsIndex (nodes_of slots) index
 
--- nodes that a table can hold: their records ascend and are below 256, and no two have one name in one directory
+-- nodes that a table can hold: their records ascend and are below 256, and no two have one number, or one name in one directory
 pub record AreListed (nodes : List Node) : Type 0 where
   pub ascending : AreAscendingFrom 0 nodes
   pub records : All (λ node. node.rec < 256) nodes
+  pub number_once : All (λ node. node_of nodes node.ino ≡ Some node) nodes
   pub name_once : All (λ node. child_of nodes node.parent node.name ≡ Some node) nodes
 
 -- the slots and the index hold these nodes

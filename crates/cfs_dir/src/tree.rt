@@ -1,9 +1,8 @@
-ghost use Rattle.std.specs.Prelude.{◌≡◌, ◌<◌, ◌≤◌, [], ◌∷◌, ℕ, IfErr, IfOk, OnOk, OnErr, Some, None, length, option_copied, slice_get};
-ghost use Rattle.std.specs.List.{list_any};
-ghost use Rattle.std.specs.Option.{ForSome, option_and_then};
+ghost use Rattle.std.specs.Prelude.{◌≡◌, ◌<◌, ◌≤◌, [], ◌∷◌, ℕ, IfErr, IfOk, OnOk, OnErr, Some, None, length, option_copied};
+ghost use Rattle.std.specs.Option.{ForSome};
 ghost use Rattle.cfs_dir.specs.Namespace.{child_of, has_child, node_at, with_node, without, without_last, without_node};
 ghost use Rattle.cfs_dir.specs.Step.{IsAnswer, entered, has_right, looked_up, made, place_of, refused, removed_directory, unlinked};
-ghost use Rattle.cfs_dir.specs.Table.{AreListed, IsTableOf, stands_in};
+ghost use Rattle.cfs_dir.specs.Table.{AreListed, IsTableOf};
 ghost use Rattle.cfs_dir.specs.Path.{ArePathNames};
 ghost use Rattle.cfs_dir.specs.Tree.{CanBeTakenBack, CanJoin, CanLeave, IsTree, root_of};
 
@@ -11,6 +10,7 @@ use crate::child::Child;
 use crate::kind::Kind;
 use crate::name::{LONGEST_NAME, Name};
 use crate::node::Node;
+use crate::nodes::Nodes;
 use crate::path::{Component, Path};
 use crate::place::Place;
 use crate::posix::Posix;
@@ -30,8 +30,7 @@ pub const INODE_END: u64 = 4_294_967_296;
 /// The files and directories of a file system, by their names.
 #[derive(Debug, Drop)]
 pub struct Tree {
-    /// The node of each record.
-    slots: Vec<Option<Node>>,
+    nodes: Nodes,
     /// The record of each node, by its directory and its name there.
     index: IndexMap<Child, u32>,
     /// The next inode number.
@@ -45,9 +44,9 @@ impl Model for Tree {
 
     ghost use Rattle.cfs_dir.specs.Table.{IsTable, nodes_of};
 
-    ghost view = { λ t. record { nodes = nodes_of t.slots.items; next = t.next } };
+    ghost view = { λ t. record { nodes = nodes_of t.nodes; next = t.next } };
 
-    ghost invariant = { λ t. IsTable t.slots.items t.index t.next };
+    ghost invariant = { λ t. IsTable t.nodes t.index t.next };
 }
 
 impl Tree {
@@ -60,7 +59,7 @@ impl Tree {
         ensures given_back { IfErr result (λ failed. failed.value ≡ nodes) }
     {
         match table_of(alloc, &nodes) {
-            Ok((slots, index)) => Ok(Tree { slots, index, next }),
+            Ok((nodes, index)) => Ok(Tree { nodes, index, next }),
             Err(_) => Err(AllocFailed { value: nodes }),
         }
     }
@@ -88,7 +87,7 @@ impl Tree {
     pub fn node(&self, rec: u32) -> Option<&Node>
         ensures { option_copied result ≡ node_at self.now.nodes rec }
     {
-        slot(&self.slots, rec)
+        self.nodes.get(rec)
     }
 
     /// The inode number of the next node that is made: 2 to 4,294,967,296, where the last means
@@ -189,7 +188,7 @@ impl Tree {
         ensures first { node_at self.now.nodes 0 ≡ Some result.now }
         ensures whole { IsTree self.now.nodes self.now.next }
     {
-        match slot(&self.slots, 0) {
+        match self.nodes.get(0) {
             Some(root) => root,
             None => unreachable!(),
         }
@@ -201,7 +200,7 @@ impl Tree {
     {
         let child = Child { parent, name };
         let rec = *self.index.get(&child)?;
-        slot(&self.slots, rec)
+        self.nodes.get(rec)
     }
 
     /// The directory of this name in a directory.
@@ -360,7 +359,7 @@ impl Tree {
     fn has_child(&self, parent: u64) -> bool
         ensures { result ≡ has_child self.now.nodes parent }
     {
-        some_stands_in(&self.slots, parent)
+        self.nodes.some_stands_in(parent)
     }
 
     /// Adds a node, which uses the next inode number up. Without memory nothing is changed.
@@ -375,8 +374,9 @@ impl Tree {
             parent: node.parent,
             name: node.name,
         };
-        self.index.insert(child, node.rec)?;
-        self.slots[node.rec as usize] = Some(*node);
+        self.index.reserve(1)?;
+        self.nodes.put(node)?;
+        self.index.insert(child, node.rec).unwrap();
         self.next += 1;
         Ok(())
     }
@@ -409,20 +409,17 @@ impl Tree {
             name: node.name,
         };
         self.index.swap_remove(&child);
-        self.slots[node.rec as usize] = None;
+        self.nodes.take(node.rec);
         self.next = next;
     }
 }
 
-/// The nodes at their records, and the index of their names.
-fn table_of(
-    alloc: Global,
-    nodes: &[Node],
-) -> Result<(Vec<Option<Node>>, IndexMap<Child, u32>), AllocError>
+/// The nodes by their numbers and records, and the index of their names.
+fn table_of(alloc: Global, nodes: &[Node]) -> Result<(Nodes, IndexMap<Child, u32>), AllocError>
     requires { AreListed nodes.now }
-    ensures { IfOk result (λ table. IsTableOf table.0.items table.1 nodes.now) }
+    ensures { IfOk result (λ table. IsTableOf table.0 table.1 nodes.now) }
 {
-    let mut slots = vec![in alloc; None; RECORDS]?;
+    let mut table = Nodes::new(alloc)?;
     let mut index = IndexMap::new(alloc);
     for node in nodes {
         let child = Child {
@@ -430,16 +427,9 @@ fn table_of(
             name: node.name,
         };
         index.insert(child, node.rec)?;
-        slots[node.rec as usize] = Some(*node);
+        table.put(node)?;
     }
-    Ok((slots, index))
-}
-
-/// The node of a record, by its place.
-fn slot(slots: &[Option<Node>], rec: u32) -> Option<&Node>
-    ensures { option_copied result ≡ option_and_then (λ slot. slot) (slice_get slots.now rec) }
-{
-    slots.get(rec as usize)?.as_ref()
+    Ok((table, index))
 }
 
 /// Whether a user has a right on a node.
@@ -447,21 +437,4 @@ fn has_right(credential: Credential, node: &Node, want: Want) -> bool
     ensures { result ≡ has_right credential node.now want }
 {
     allows(node.mode, node.uid, node.gid, credential, want)
-}
-
-/// Whether the node of some slot stands in a directory.
-fn some_stands_in(slots: &[Option<Node>], parent: u64) -> bool
-    ensures { result ≡ list_any (stands_in parent) slots.now }
-{
-    slots.iter().any(|slot| stands_in(slot, parent))
-}
-
-/// Whether a slot has a node that stands in a directory.
-fn stands_in(slot: &Option<Node>, parent: u64) -> bool
-    ensures { result ≡ stands_in parent slot.now }
-{
-    match slot {
-        Some(node) => node.parent == parent,
-        None => false,
-    }
 }

@@ -14,8 +14,8 @@ returns-in_err-rec c =
 
 pub returns : goal.returns
 returns c =
-    c.slot.ensures
-    ∙ slot_is_node c.deref.result.now c.self.inside.slots.items c.in_ok-rec.field-0.now c.self.invariant.at_records c.deref.ensures.value
+    c.get-2.ensures
+    ∙ slot_is_node c.self.inside.nodes c.in_ok-rec.field-0.now c.self.invariant.at_records
     ∙ node_at-child _ 0 c.args.parent c.args.name c.in_ok-rec.field-0.now c.self.invariant.tree.ascending
     (sym (c.self.invariant.indexed (record { parent = c.args.parent; name = c.args.name })) ∙ sym c.in_ok-rec.ensures.value)
     ∙ ap (λ (namespace : Namespace). child_of namespace.nodes c.args.parent c.args.name) c.self.view_is

@@ -5,6 +5,6 @@ use Rattle.cfs_dir.proofs.tree.Tree.node.Goals as goal
 
 pub returns : goal.returns
 returns c =
-    c.slot.ensures
-    ∙ slot_is_node c.deref.result.now c.self.inside.slots.items c.args.rec c.self.invariant.at_records c.deref.ensures.value
+    c.get.ensures
+    ∙ slot_is_node c.self.inside.nodes c.args.rec c.self.invariant.at_records
     ∙ ap (λ (namespace : Namespace). node_at namespace.nodes c.args.rec) c.self.view_is

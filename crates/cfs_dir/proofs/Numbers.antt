@@ -1,0 +1,198 @@
+-- The nodes by number after one is put at its record or taken out.
+use Rattle.std.proofs.Common.{◌≡◌, ◌≢◌, ℕ, zero, suc, ◌+◌, ◌<◌, List, [], ◌∷◌, length, map, get_or, ◌||◌, cond, inl, inr, refl, sym, ◌∙◌, ap, subst, arith}
+use Rattle.std.proofs.Math.ListN.{set, length-set}
+use Rattle.std.specs.Prelude.{Option, Some, None, IsSomeAnd, replicate, nat_eq}
+use Rattle.std.specs.HashMap.{get}
+use Rattle.std.specs.Map.{lookup}
+use Rattle.std.specs.List.{list_any}
+use Rattle.std.proofs.lemmas.Bool.{cases_Bool, cond-true, cond-false, eq-eqb, ne_eqb}
+use Rattle.std.proofs.lemmas.List.{map-set}
+use Rattle.cfs_dir.specs.declared.node.Node.{Node}
+use Rattle.cfs_dir.specs.Namespace.{node_of}
+use Rattle.cfs_dir.specs.Numbered.{NodeMap, slot_of, slots_of, FindsOwn, AreNumbered, IsNumbered}
+use Rattle.cfs_dir.specs.Table.{nodes_of, stands_in}
+use Rattle.cfs_dir.proofs.Grown.{some_of, IsSomeAnd_from}
+
+-- the map finds a value at one number, and what it found before at every other
+abbrev pub IsRenewed : NodeMap → NodeMap → ℕ → Option Node → Type 0
+IsRenewed old new key value = (number : ℕ) → get nat_eq new number ≡ cond (nat_eq key number) value (get nat_eq old number)
+
+-- no record has this inode number
+abbrev pub IsAbsent : ℕ → List (Option ℕ) → Type 0
+IsAbsent key [] = Unit {0}
+IsAbsent key (None ∷ numbers) = IsAbsent key numbers
+IsAbsent key (Some number ∷ numbers) = (key ≢ number) × IsAbsent key numbers
+
+pub slots-empty : (slot : Option ℕ → Option Node) → slot None ≡ None → (n : ℕ) → map slot (replicate n None) ≡ replicate n None
+slots-empty slot none zero = refl
+slots-empty slot none (suc n) = ap (λ first. first ∷ map slot (replicate n None)) none ∙ ap (λ slots. None ∷ slots) (slots-empty slot none n)
+
+pub AreNumbered-empty : (by_number : NodeMap) (n first : ℕ) → AreNumbered by_number first (replicate n None)
+AreNumbered-empty by_number zero first = tt
+AreNumbered-empty by_number (suc n) first = (tt, AreNumbered-empty by_number n (suc first))
+
+-- a number that no node has is no record's
+pub IsAbsent-unused : (by_number : NodeMap) (first key : ℕ) (numbers : List (Option ℕ)) → AreNumbered by_number first numbers
+    → node_of (nodes_of (slots_of by_number numbers)) key ≡ None → IsAbsent key numbers
+IsAbsent-unused by_number first key [] h unused = tt
+IsAbsent-unused by_number first key (None ∷ numbers) h unused = IsAbsent-unused by_number (suc first) key numbers h.1 unused
+IsAbsent-unused by_number first key (Some number ∷ numbers) h unused =
+    let own = some_of (get nat_eq by_number number) (λ node. (node.ino ≡ number) × (node.rec ≡ first)) h.0 in
+    let unused' : node_of (nodes_of (Some own.0 ∷ slots_of by_number numbers)) key ≡ None =
+    ap (λ slot. node_of (nodes_of (slot ∷ slots_of by_number numbers)) key) (sym own.1) ∙ unused in
+    elim (cases_Bool (nat_eq own.0.ino key)) [
+      | inl t ↦ absurd (let hit = cond-true (nat_eq own.0.ino key) (Some own.0) (node_of (nodes_of (slots_of by_number numbers)) key) t in cc)
+      | inr f ↦ (
+        λ same. (let hit = eq-eqb own.0.ino key (own.2.0 ∙ sym same) in cc),
+        IsAbsent-unused by_number (suc first) key numbers h.1
+            (sym (cond-false (nat_eq own.0.ino key) (Some own.0) (node_of (nodes_of (slots_of by_number numbers)) key) f) ∙ unused'),
+      )
+    ]
+
+-- a number whose node has an earlier record is no record's from here on
+pub IsAbsent-earlier : (by_number : NodeMap) (first key : ℕ) (node : Node) (numbers : List (Option ℕ)) → AreNumbered by_number first numbers
+    → get nat_eq by_number key ≡ Some node → node.rec < first → IsAbsent key numbers
+IsAbsent-earlier by_number first key node [] h at lt = tt
+IsAbsent-earlier by_number first key node (None ∷ numbers) h at lt = IsAbsent-earlier by_number (suc first) key node numbers h.1 at (omega arith)
+IsAbsent-earlier by_number first key node (Some number ∷ numbers) h at lt =
+    let own = some_of (get nat_eq by_number number) (λ node. (node.ino ≡ number) × (node.rec ≡ first)) h.0 in (
+      λ same. (
+          let one : Some node ≡ Some own.0 = sym at ∙ ap (λ k. get nat_eq by_number k) same ∙ own.1 in
+          let equal : node ≡ own.0 = cc in
+          let recs : node.rec ≡ first = ap (λ (n : Node). n.rec) equal ∙ own.2.1 in
+          omega arith
+          ),
+      IsAbsent-earlier by_number (suc first) key node numbers h.1 at (omega arith),
+    )
+
+-- a number is its own record's alone
+pub IsAbsent-taken : (by_number : NodeMap) (first i key : ℕ) (node : Node) (numbers : List (Option ℕ)) → AreNumbered by_number first numbers
+    → get nat_eq by_number key ≡ Some node → node.rec ≡ first + i → IsAbsent key (set numbers i None)
+IsAbsent-taken by_number first i key node [] h at e = tt
+IsAbsent-taken by_number first zero key node (number ∷ numbers) h at e = IsAbsent-earlier by_number (suc first) key node numbers h.1 at (omega arith)
+IsAbsent-taken by_number first (suc i) key node (None ∷ numbers) h at e = IsAbsent-taken by_number (suc first) i key node numbers h.1 at (omega arith)
+IsAbsent-taken by_number first (suc i) key node (Some number ∷ numbers) h at e =
+    let own = some_of (get nat_eq by_number number) (λ node. (node.ino ≡ number) × (node.rec ≡ first)) h.0 in (
+      λ same. (
+          let one : Some node ≡ Some own.0 = sym at ∙ ap (λ k. get nat_eq by_number k) same ∙ own.1 in
+          let equal : node ≡ own.0 = cc in
+          let recs : node.rec ≡ first = ap (λ (n : Node). n.rec) equal ∙ own.2.1 in
+          omega arith
+          ),
+      IsAbsent-taken by_number (suc first) i key node numbers h.1 at (omega arith),
+    )
+
+pub get-other : (old new : NodeMap) (key : ℕ) (value : Option Node) (number : ℕ) → IsRenewed old new key value → key ≢ number
+    → get nat_eq new number ≡ get nat_eq old number
+get-other old new key value number renewed ne = renewed number ∙ cond-false (nat_eq key number) value (get nat_eq old number) (ne_eqb key number ne)
+
+pub get-own : (old new : NodeMap) (key : ℕ) (value : Option Node) → IsRenewed old new key value → get nat_eq new key ≡ value
+get-own old new key value renewed = renewed key ∙ cond-true (nat_eq key key) value (get nat_eq old key) (eq-eqb key key refl)
+
+-- a change at a number that no record has shows in no slot
+pub slots_of-same : (old new : NodeMap) (key : ℕ) (value : Option Node) (numbers : List (Option ℕ)) → IsRenewed old new key value
+    → IsAbsent key numbers → slots_of new numbers ≡ slots_of old numbers
+slots_of-same old new key value [] renewed absent = refl
+slots_of-same old new key value (None ∷ numbers) renewed absent = ap (λ slots. None ∷ slots) (slots_of-same old new key value numbers renewed absent)
+slots_of-same old new key value (Some number ∷ numbers) renewed absent =
+    ap (λ slot. slot ∷ slots_of new numbers) (get-other old new key value number renewed absent.0)
+    ∙ ap (λ slots. get nat_eq old number ∷ slots) (slots_of-same old new key value numbers renewed absent.1)
+
+pub AreNumbered-same : (old new : NodeMap) (first key : ℕ) (value : Option Node) (numbers : List (Option ℕ)) → IsRenewed old new key value
+    → IsAbsent key numbers → AreNumbered old first numbers → AreNumbered new first numbers
+AreNumbered-same old new first key value [] renewed absent h = tt
+AreNumbered-same old new first key value (None ∷ numbers) renewed absent h = (tt, AreNumbered-same old new (suc first) key value numbers renewed absent h.1)
+AreNumbered-same old new first key value (Some number ∷ numbers) renewed absent h = (
+  subst (λ slot. IsSomeAnd slot (λ node. (node.ino ≡ number) × (node.rec ≡ first))) (sym (get-other old new key value number renewed absent.0)) h.0,
+  AreNumbered-same old new (suc first) key value numbers renewed absent.1 h.1,
+)
+
+pub AreNumbered-set : (by_number : NodeMap) (first i : ℕ) (number : Option ℕ) (numbers : List (Option ℕ)) → AreNumbered by_number first numbers
+    → FindsOwn by_number (first + i) number → AreNumbered by_number first (set numbers i number)
+AreNumbered-set by_number first i number [] h own = tt
+AreNumbered-set by_number first zero number (other ∷ numbers) h own = (subst (λ rec. FindsOwn by_number rec number) (omega arith) own, h.1)
+AreNumbered-set by_number first (suc i) number (other ∷ numbers) h own =
+    (h.0, AreNumbered-set by_number (suc first) i number numbers h.1 (subst (λ rec. FindsOwn by_number rec number) (omega arith) own))
+
+pub AreNumbered-kept : (old new : NodeMap) (first : ℕ) (numbers : List (Option ℕ)) → new.entries ≡ old.entries
+    → AreNumbered old first numbers → AreNumbered new first numbers
+AreNumbered-kept old new first [] same h = tt
+AreNumbered-kept old new first (None ∷ numbers) same h = (tt, AreNumbered-kept old new (suc first) numbers same h.1)
+AreNumbered-kept old new first (Some number ∷ numbers) same h = (
+  subst (λ slot. IsSomeAnd slot (λ node. (node.ino ≡ number) × (node.rec ≡ first))) (ap (λ entries. lookup (nat_eq number) entries) (sym same)) h.0,
+  AreNumbered-kept old new (suc first) numbers same h.1,
+)
+
+-- a map with the same entries serves as well
+pub IsNumbered-kept : (old new : NodeMap) (numbers : List (Option ℕ)) → new.entries ≡ old.entries → IsNumbered old numbers → IsNumbered new numbers
+IsNumbered-kept old new numbers same h = record { size = h.size; numbered = AreNumbered-kept old new 0 numbers same h.numbered }
+
+pub IsNumbered-empty : (by_number : NodeMap) (numbers : List (Option ℕ)) → numbers ≡ replicate 256 None → IsNumbered by_number numbers
+IsNumbered-empty by_number numbers e = rw e (record { size = refl; numbered = AreNumbered-empty by_number 256 0 })
+
+pub seen-empty : (slot : Option ℕ → Option Node) (numbers : List (Option ℕ)) → slot None ≡ None → numbers ≡ replicate 256 None
+    → map slot numbers ≡ replicate 256 None
+seen-empty slot numbers none e = ap (λ ns. map slot ns) e ∙ slots-empty slot none 256
+
+-- a node of a number that no node has is put at its record
+module _ (old new : NodeMap) (numbers : List (Option ℕ)) (slots : List (Option Node)) (node : Node) (h : IsNumbered old numbers)
+    (seen : slots_of old numbers ≡ slots) (unused : node_of (nodes_of slots) node.ino ≡ None) (renewed : IsRenewed old new node.ino (Some node)) where
+  pub IsAbsent-put : IsAbsent node.ino numbers
+  IsAbsent-put = IsAbsent-unused old 0 node.ino numbers h.numbered (ap (λ s. node_of (nodes_of s) node.ino) seen ∙ unused)
+
+  pub seen-put : slots_of new (set numbers node.rec (Some node.ino)) ≡ set slots node.rec (Some node)
+  seen-put =
+      map-set (slot_of new) numbers node.rec (Some node.ino)
+      ∙ ap (λ slot. set (slots_of new numbers) node.rec slot) (get-own old new node.ino (Some node) renewed)
+      ∙ ap (λ s. set s node.rec (Some node)) (slots_of-same old new node.ino (Some node) numbers renewed IsAbsent-put ∙ seen)
+
+  pub IsNumbered-put : IsNumbered new (set numbers node.rec (Some node.ino))
+  IsNumbered-put = record {
+    size = length-set numbers node.rec (Some node.ino) ∙ h.size;
+    numbered = AreNumbered-set new 0 node.rec (Some node.ino) numbers (AreNumbered-same old new 0 node.ino (Some node) numbers renewed IsAbsent-put h.numbered)
+        (IsSomeAnd_from (get nat_eq new node.ino) node (λ n. (n.ino ≡ node.ino) × (n.rec ≡ 0 + node.rec)) (get-own old new node.ino (Some node) renewed) (refl, omega arith));
+  }
+
+-- the number of a record finds a node of that record
+pub own-at : (by_number : NodeMap) (first i key : ℕ) (numbers : List (Option ℕ)) (d : Option ℕ) → AreNumbered by_number first numbers
+    → i < length numbers → get_or numbers i d ≡ Some key → FindsOwn by_number (first + i) (Some key)
+own-at by_number first i key [] d h lt e = absurd (omega arith)
+own-at by_number first zero key (number ∷ numbers) d h lt e =
+    subst (λ rec. FindsOwn by_number rec (Some key)) (omega arith) (subst (λ n. FindsOwn by_number first n) e h.0)
+own-at by_number first (suc i) key (number ∷ numbers) d h lt e =
+    subst (λ rec. FindsOwn by_number rec (Some key)) (omega arith) (own-at by_number (suc first) i key numbers d h.1 (omega arith) e)
+
+-- the node of a record is taken out, where the record has none
+module _ (old : NodeMap) (numbers : List (Option ℕ)) (slots : List (Option Node)) (rec : ℕ) (h : IsNumbered old numbers)
+    (seen : slots_of old numbers ≡ slots) where
+  pub seen-none : slots_of old (set numbers rec None) ≡ set slots rec None
+  seen-none = map-set (slot_of old) numbers rec None ∙ ap (λ s. set s rec None) seen
+
+  pub IsNumbered-none : IsNumbered old (set numbers rec None)
+  IsNumbered-none = record {
+    size = length-set numbers rec None ∙ h.size;
+    numbered = AreNumbered-set old 0 rec None numbers h.numbered tt;
+  }
+
+  -- and where it has one
+  module _ (new : NodeMap) (key : ℕ) (d : Option ℕ) (lt : rec < 256) (at : get_or numbers rec d ≡ Some key) (renewed : IsRenewed old new key None) where
+    pub IsAbsent-own : IsAbsent key (set numbers rec None)
+    IsAbsent-own =
+        let size = h.size in
+        let own = some_of (get nat_eq old key) (λ node. (node.ino ≡ key) × (node.rec ≡ 0 + rec)) (own-at old 0 rec key numbers d h.numbered (omega arith) at) in
+        IsAbsent-taken old 0 rec key own.0 numbers h.numbered own.1 own.2.1
+
+    pub seen-taken : slots_of new (set numbers rec None) ≡ set slots rec None
+    seen-taken = slots_of-same old new key None (set numbers rec None) renewed IsAbsent-own ∙ seen-none
+
+    pub IsNumbered-taken : IsNumbered new (set numbers rec None)
+    IsNumbered-taken = record {
+      size = IsNumbered-none.size;
+      numbered = AreNumbered-same old new 0 key None (set numbers rec None) renewed IsAbsent-own IsNumbered-none.numbered;
+    }
+
+pub list_any-slots_of : (by_number : NodeMap) (parent : ℕ) (numbers : List (Option ℕ))
+    → list_any (λ number. stands_in parent (slot_of by_number number)) numbers ≡ list_any (stands_in parent) (slots_of by_number numbers)
+list_any-slots_of by_number parent [] = refl
+list_any-slots_of by_number parent (number ∷ numbers) =
+    ap (λ b. stands_in parent (slot_of by_number number) || b) (list_any-slots_of by_number parent numbers)
