@@ -9,10 +9,10 @@ costs. Build the program first (`rt ci` does, and `rt run -- 10` in crates/cfs_b
 `bench/image.py [PROGRAM]`.
 """
 import os
-import subprocess
 import sys
 import tempfile
-import time
+
+from timing import compiled, least, round_of
 
 TOP = os.path.dirname(os.path.dirname(os.path.abspath(__file__)))
 PROGRAM = sys.argv[1] if len(sys.argv) > 1 else os.path.join(TOP, "crates/cfs_bench/out/cfs_bench")
@@ -73,33 +73,14 @@ int main(int argc, char **argv) {
 """
 
 
-def seconds(words):
-    start = time.perf_counter()
-    subprocess.run(words, check=True, stdout=subprocess.DEVNULL)
-    return time.perf_counter() - start
-
-
-def least(words):
-    return min(seconds(words) for _ in range(RUNS))
-
-
-def milliseconds(words):
-    """Of one round more: the least of several runs."""
-    return (least(words + [str(MANY)]) - least(words + [str(FEW)])) * 1e3 / (MANY - FEW)
-
-
 def main():
     with tempfile.TemporaryDirectory() as folder:
-        source, copies = os.path.join(folder, "copies.c"), os.path.join(folder, "copies")
-        with open(source, "w", encoding="ascii") as file:
-            file.write(COPIES)
-        subprocess.run(["cc", "-O2", "-o", copies, source], check=True)
         image, other = os.path.join(folder, "image"), os.path.join(folder, "other")
         with open(image, "wb") as file:
             file.write(os.urandom(BYTES))
-        program = milliseconds([PROGRAM, "image", str(BLOCKS), str(QUEUES)])
-        loop = milliseconds([copies])
-        copied = least(["cp", image, other]) * 1e3
+        program = round_of(RUNS, [PROGRAM, "image", str(BLOCKS), str(QUEUES)], FEW, MANY) * 1e3
+        loop = round_of(RUNS, [compiled(COPIES, folder)], FEW, MANY) * 1e3
+        copied = least(RUNS, ["cp", image, other]) * 1e3
         print(f"an image read and written  {program:8.1f} ms")
         print(f"its file copied by cp      {copied:8.1f} ms")
         print(f"its bytes copied in C      {loop:8.1f} ms")

@@ -6,10 +6,10 @@ Build the program first (`rt ci` does, and `rt run` in crates/crossfs), then run
 """
 import os
 import random
-import subprocess
 import sys
 import tempfile
-import time
+
+from timing import least
 
 TOP = os.path.dirname(os.path.dirname(os.path.abspath(__file__)))
 PROGRAM = sys.argv[1] if len(sys.argv) > 1 else os.path.join(TOP, "crates/crossfs/out/crossfs")
@@ -40,16 +40,10 @@ def script(kind, lines):
 
 
 def seconds(path):
-    best = None
-    for _ in range(RUNS):
-        with open(path, "rb") as given, open(os.devnull, "wb") as nowhere:
-            start = time.perf_counter()
-            status = subprocess.run([PROGRAM, "play", "d"], stdin=given, stdout=nowhere).returncode
-            taken = time.perf_counter() - start
-        if status != 0:
-            sys.exit(f"{path}: status {status}")
-        best = taken if best is None else min(best, taken)
-    return best
+    def given():
+        os.dup2(os.open(path, os.O_RDONLY), 0)
+
+    return least(RUNS, [PROGRAM, "play", "d"], preexec_fn=given)
 
 
 def main():

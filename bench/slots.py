@@ -7,10 +7,10 @@ C loop copies the same 4096 bytes twice a request, since a region keeps a durabl
 Build the program first (`rt ci` does, and `rt run -- 10` in crates/cfs_bench), then run `bench/slots.py [PROGRAM]`.
 """
 import os
-import subprocess
 import sys
 import tempfile
-import time
+
+from timing import compiled, round_of
 
 TOP = os.path.dirname(os.path.dirname(os.path.abspath(__file__)))
 PROGRAM = sys.argv[1] if len(sys.argv) > 1 else os.path.join(TOP, "crates/cfs_bench/out/cfs_bench")
@@ -39,27 +39,10 @@ int main(int argc, char **argv) {
 """
 
 
-def seconds(program, count):
-    best = None
-    for _ in range(RUNS):
-        start = time.perf_counter()
-        subprocess.run([program, str(count)], check=True, stdout=subprocess.DEVNULL)
-        taken = time.perf_counter() - start
-        best = taken if best is None else min(best, taken)
-    return best
-
-
-def nanoseconds(program):
-    return (seconds(program, MANY) - seconds(program, FEW)) * 1e9 / (MANY - FEW)
-
-
 def main():
     with tempfile.TemporaryDirectory() as folder:
-        source, copies = os.path.join(folder, "copies.c"), os.path.join(folder, "copies")
-        with open(source, "w", encoding="ascii") as file:
-            file.write(COPIES)
-        subprocess.run(["cc", "-O2", "-o", copies, source], check=True)
-        slot, copy = nanoseconds(PROGRAM), nanoseconds(copies)
+        slot = round_of(RUNS, [PROGRAM], FEW, MANY) * 1e9
+        copy = round_of(RUNS, [compiled(COPIES, folder)], FEW, MANY) * 1e9
         print(f"a request through a slot  {slot:8.0f} ns")
         print(f"its bytes copied twice    {copy:8.0f} ns")
         print(f"ratio                     {slot / copy:8.1f}")
