@@ -1,5 +1,5 @@
 -- A logged entry keeps the log's part of the invariant: it is the last at its positions.
-use Rattle.std.proofs.Common.{◌≡◌, ◌⊎◌, inl, inr, ℕ, suc, zero, ◌+◌, ◌-◌, ◌<◌, ◌≤◌, Bool, true, false, not, Some, List, [], ◌∷◌, ◌++◌, length, take, get_or, arith, refl, sym, ◌∙◌, length-append, Option, None, is_none}
+use Rattle.std.proofs.Common.{◌≡◌, ◌⊎◌, inl, inr, ℕ, suc, zero, ◌+◌, ◌-◌, ◌<◌, ◌≤◌, Bool, true, false, not, Some, List, [], ◌∷◌, ◌++◌, length, take, get_or, arith, refl, sym, ◌∙◌, length-append, is_none}
 use Rattle.std.specs.List.{slice_get}
 use Rattle.std.proofs.lemmas.Bool.{cases_Bool, cases_lt}
 use Rattle.std.proofs.lemmas.List.{get_or_append_left, get_or-append_right, get_or_past, take_all}
@@ -16,7 +16,7 @@ use Rattle.cfs_core.specs.Medium.{file}
 use Rattle.cfs_core.specs.May.{is_change, is_mapped, is_query, fits, is_next, may_admit, may_admit_read, span_now}
 use Rattle.cfs_core.specs.After.{logged, admitted, change_track, query_track}
 use Rattle.cfs_core.proofs.Apart.{is_busy, not_true}
-use Rattle.cfs_core.proofs.Order.{same_or_not, IsOrdered}
+use Rattle.cfs_core.proofs.Order.{same_or_not, none_no, IsOrdered}
 use Rattle.cfs_core.proofs.Kept.{Alters, IsChange, IsLast, IsLive, IsLogged, IsView, at}
 use Rattle.cfs_core.proofs.Registers.{change-within, holds-or-not, query-effect, query-no_change}
 use Rattle.cfs_core.proofs.StoredFrames.{no_clash}
@@ -218,10 +218,6 @@ logged_push core entry t kept joins = record {
 
 -- ---- admissions
 
-none_some : (o : Option Doubt) (d : Doubt) → is_none o ≡ true → o ≡ Some d → ⊥
-none_some None d none is = cc
-none_some (Some e) d none is = cc
-
 pub logged_admit : (core : Core) (entry : Entry) (grant : ℕ) (kept : Bool) → IsOrdered core → IsLogged core → may_admit core entry ≡ true →
     IsLogged (admitted core entry grant kept)
 logged_admit core entry grant true ordered old h =
@@ -239,7 +235,7 @@ logged_admit core entry grant true ordered old h =
       unapplied = refl;
       unmarked = refl;
       mapped = λ live. blocks.1;
-      doubt = λ d is. absurd (none_some core.doubt d calm.0 is);
+      doubt = λ d is. absurd (none_no core.doubt d calm.0 is);
     })
 logged_admit core entry grant false ordered old h =
     let calm = both (is_none core.doubt) _ h in

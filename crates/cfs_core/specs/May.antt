@@ -33,7 +33,7 @@ in_block block stretch = stretch.from / BLOCK == block
 abbrev pub is_written : List Stretch → ℕ → Bool
 is_written loose block = list_any (λ s. in_block block s) loose
 
--- every byte of the block is 0 in every image
+-- Nothing was written in the block since its last flush, and every byte of it is 0.
 abbrev pub is_zero_block : Core → ℕ → Bool
 is_zero_block core block =
     not (is_written core.loose block) && list_all (λ b. b == 0) (take BLOCK (drop (BLOCK * block) core.bytes))

@@ -36,8 +36,9 @@ pub use image::Image;
 pub use inode_core::Core;
 pub use items::Items;
 pub use laws::{
-    jobs_are_apart, live_are_open, marked_are_covered, moments_may_come, only_live_are_open,
-    runs_are_good,
+    images_open_as_cores, job_steps_commute, jobs_are_apart, listed_until_closed, live_are_open,
+    marked_are_covered, marks_may_follow, moments_may_come, only_live_are_open, runs_are_good,
+    steps_stay_inside,
 };
 pub use medium::{image_now, is_image, recovered_file, stored_file};
 pub use run::run_events;
