@@ -10,13 +10,11 @@ ghost use Rattle.cfs_slot.specs.Staging.{IsStageable};
 
 use anyhow::{Context, anyhow};
 use cfs_file::{Bytes, Request};
+use cfs_image::{FIRST_SLOT, region_words};
 use cfs_pmem::{DeviceFault, MemRegion, Meter};
 use cfs_slot::{Slot, is_stageable};
 use std::alloc::{AllocError, Global};
 use std::env;
-
-/// The first slot's device number.
-const FIRST_SLOT: u32 = 323;
 
 fn main(rt: HostRuntime) -> anyhow::Result<()> {
     let alloc = rt.alloc();
@@ -51,7 +49,11 @@ fn number(word: Option<String>) -> anyhow::Result<u32> {
 }
 
 fn empty_slot(alloc: Global) -> Result<Slot<MemRegion>, AllocError> {
-    let region = MemRegion::new(alloc, FIRST_SLOT, vec![in alloc; 0; 518]?)?;
+    let region = MemRegion::new(
+        alloc,
+        FIRST_SLOT,
+        vec![in alloc; 0; region_words(FIRST_SLOT)]?,
+    )?;
     Ok(Slot::new(region))
 }
 
