@@ -34,7 +34,7 @@ static size_t bytes_of(size_t k, size_t regions) {
 
 int main(int argc, char **argv) {
     size_t blocks = 16384, regions = 323 + 16 * 64, objects = regions + blocks;
-    size_t bytes = 58936 + 66304 * 64 + 4104 * blocks;
+    size_t bytes = 59448 + 66304 * 64 + 4104 * blocks;
     unsigned long count = strtoul(argv[1], 0, 10);
     unsigned char *image = malloc(bytes);
     memset(image, 1, bytes);

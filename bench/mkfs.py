@@ -14,7 +14,7 @@ from timing import least
 TOP = os.path.dirname(os.path.dirname(os.path.abspath(__file__)))
 PROGRAM = sys.argv[1] if len(sys.argv) > 1 else os.path.join(TOP, "crates/crossfs/out/crossfs")
 FOLDER = sys.argv[2] if len(sys.argv) > 2 else None
-BYTES = 71_542_328
+BYTES = 71_542_840
 RUNS = 7
 
 

@@ -89,8 +89,8 @@ fn admit(
     let Ok(live) = staged.open_gate(meter, place) else {
         return Err(DeviceFault);
     };
-    match live.close_gate(meter) {
-        Ok(slot) => Ok(slot),
-        Err(_) => Err(DeviceFault),
-    }
+    let Ok(mut slots) = live.close_gate(meter) else {
+        return Err(DeviceFault);
+    };
+    slots.pop().ok_or(DeviceFault)
 }

@@ -1,10 +1,11 @@
 -- Images of a block after each kind of writing step, and moments step by step.
 use Rattle.std.proofs.Common.{ℕ, ◌+◌, ◌-◌, ◌<◌, ◌≤◌, ◌≡◌, ◌⊎◌, ◌∙◌, List, [], ◌∷◌, ◌++◌, length, get_or, take, drop, inl, inr, refl, sym, ap, subst, arith, ⊎_elim, ext_get_or}
-use Rattle.std.proofs.lemmas.List.{length-append, length-take-le, length-drop, get_or_append_left, get_or-append_right, get_or-take, get_or-drop, drop_all, append-nil, length-replicate}
+use Rattle.std.proofs.lemmas.List.{length-take-le, length-drop, get_or-take, get_or-drop, drop_all, append-nil, length-replicate}
 use Rattle.std.proofs.Math.ListN.{replicate}
 use Rattle.std.proofs.lemmas.Bool.{cases_lt}
-use Rattle.cfs_pmem.specs.Images.{Seen}
-use Rattle.cfs_block.specs.BlockImages.{Content, BlockStep, ranged, tagged, flushed, stalled, content_now, content_kept, content_of, patched, with_bytes, with_tag, wrote, retagged, kept, unflushed, IsTorn, IsHalfTagged, MayHaveByte, MayHaveTag, IsBlockImage, AllBlockImages, IsSureBlock, IsRangedFrom, IsTaggedFrom, IsUntagged, IsZero, began}
+use Rattle.cfs_pmem.specs.Images.{Seen, patched}
+use Rattle.cfs_pmem.proofs.Patches.{length-patched, patched_below, patched_inside, patched_above}
+use Rattle.cfs_block.specs.BlockImages.{Content, BlockStep, ranged, tagged, flushed, stalled, content_now, content_kept, content_of, with_bytes, with_tag, wrote, retagged, kept, unflushed, IsTorn, IsHalfTagged, MayHaveByte, MayHaveTag, IsBlockImage, AllBlockImages, IsSureBlock, IsRangedFrom, IsTaggedFrom, IsUntagged, IsZero, zeros, began}
 
 -- What is read is always an image.
 
@@ -54,32 +55,6 @@ sure_kept old {new} e = subst (λ s. IsSureBlock s) (sym e) (λ image h. only_ke
 pub all_kept : (P : Content → Type 0) (old : Seen BlockStep) {new : Seen BlockStep} → new ≡ kept old → P (content_of old) → AllBlockImages new P
 all_kept P old {new} e now =
     subst (λ s. AllBlockImages s P) (sym e) (λ image h. subst (λ c. P c) (sym (only_kept (content_of old) old.history image h)) now)
-
--- Bytes written over others.
-
-pub length-patched : (bytes : List ℕ) (from : ℕ) (new : List ℕ) → from + length new ≤ length bytes → length (patched bytes from new) ≡ length bytes
-length-patched bytes from new l =
-    omega (arith, length-append (take from bytes) (new ++ drop (from + length new) bytes), length-append new (drop (from + length new) bytes), length-take-le from bytes (omega arith), length-drop (from + length new) bytes)
-
-pub patched_below : (bytes : List ℕ) (from : ℕ) (new : List ℕ) (k : ℕ) → from + length new ≤ length bytes → k < from → get_or (patched bytes from new) k 0 ≡ get_or bytes k 0
-patched_below bytes from new k l below =
-    get_or_append_left (take from bytes) (new ++ drop (from + length new) bytes) 0 k (omega (arith, length-take-le from bytes (omega arith))) ∙ get_or-take from bytes k 0 below
-
-pub patched_inside : (bytes : List ℕ) (from : ℕ) (new : List ℕ) (k : ℕ) → from + length new ≤ length bytes → k < length new → get_or (patched bytes from new) (from + k) 0 ≡ get_or new k 0
-patched_inside bytes from new k l inside =
-    get_or-append_right (take from bytes) (new ++ drop (from + length new) bytes) from (from + k) 0 (length-take-le from bytes (omega arith)) (omega arith)
-    ∙ ap (λ n. get_or (new ++ drop (from + length new) bytes) n 0) (omega arith)
-    ∙ get_or_append_left new (drop (from + length new) bytes) 0 k inside
-
-pub patched_above : (bytes : List ℕ) (from : ℕ) (new : List ℕ) (k : ℕ) → from + length new ≤ length bytes → from + length new ≤ k → get_or (patched bytes from new) k 0 ≡ get_or bytes k 0
-patched_above bytes from new k l above =
-    let n : ℕ = k - (from + length new) in
-    let is : from + length new + n ≡ k = omega arith in
-    get_or-append_right (take from bytes) (new ++ drop (from + length new) bytes) from k 0 (length-take-le from bytes (omega arith)) (omega arith)
-    ∙ get_or-append_right new (drop (from + length new) bytes) (length new) (k - from) 0 refl (omega arith)
-    ∙ ap (λ i. get_or (drop (from + length new) bytes) i 0) (omega arith)
-    ∙ get_or-drop (from + length new) bytes n 0
-    ∙ ap (λ i. get_or bytes i 0) is
 
 -- A step that is no flush leaves an image of before, but for its range or its tag.
 
@@ -228,16 +203,23 @@ none-taken : (bytes : List ℕ) → take 0 bytes ≡ []
 none-taken [] = refl
 none-taken (first ∷ bytes) = refl
 
+pub zeros-are : zeros ≡ replicate 4096 0
+unfolding zeros
+zeros-are = refl
+
+pub length-zeros : length zeros ≡ 4096
+length-zeros = ap (λ (xs : List ℕ). length xs) zeros-are ∙ length-replicate {A = ℕ} 4096 0
+
 -- a block that was written over whole with zeros, and flushed, while it was untagged
-pub zeroed : (old mid : Seen BlockStep) {new : Seen BlockStep} (zeros : List ℕ) → zeros ≡ replicate 4096 0 → length (content_of old).bytes ≡ 4096 → (content_of old).tag ≡ 0
+pub zeroed : (old mid : Seen BlockStep) {new : Seen BlockStep} → length (content_of old).bytes ≡ 4096 → (content_of old).tag ≡ 0
     → mid ≡ wrote 0 zeros old → new ≡ kept mid → AllBlockImages new IsZero
-zeroed old mid {new} zeros are full none w k =
-    let size : length zeros ≡ 4096 = ap (λ (xs : List ℕ). length xs) are ∙ length-replicate {A = ℕ} 4096 0 in
+zeroed old mid {new} full none w k =
+    let size : length zeros ≡ 4096 = length-zeros in
     let all : patched (content_of old).bytes 0 zeros ≡ zeros =
     ap (λ xs. xs ++ (zeros ++ drop (0 + length zeros) (content_of old).bytes)) (none-taken (content_of old).bytes)
     ∙ ap (λ xs. zeros ++ xs) (drop_all (0 + length zeros) (content_of old).bytes (omega (arith, size, full))) ∙ append-nil zeros in
     let is : IsZero (content_of mid) =
-    ap (λ (s : Seen BlockStep). content_of s) w ∙ ap (λ t. record { tag = t; bytes = patched (content_of old).bytes 0 zeros }) none ∙ ap (λ bs. record { tag = 0; bytes = bs }) (all ∙ are) in
+    ap (λ (s : Seen BlockStep). content_of s) w ∙ ap (λ t. record { tag = t; bytes = patched (content_of old).bytes 0 zeros }) none ∙ ap (λ bs. record { tag = 0; bytes = bs }) all in
     all_kept (λ image. IsZero image) mid k is
 
 -- an image of the block is one from before

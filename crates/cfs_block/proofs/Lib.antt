@@ -1,5 +1,7 @@
 pub mod Bits
 pub mod BlockLemmas
 pub mod BlockMoments
-pub mod Mediums
+pub mod CallsOnBlocks
+pub mod DeviceLemmas
 pub mod MemBlocks
+pub mod ShadowLemmas

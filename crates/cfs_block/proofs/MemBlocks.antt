@@ -1,7 +1,7 @@
 -- A block in memory keeps its history that of its copies and its bits, through each kind of step and through a crash.
-use Rattle.std.proofs.Common.{Bool, true, false, ℕ, ◌+◌, ◌%◌, ◌<◌, ◌≤◌, ◌≡◌, ◌∙◌, ◌&&◌, ◌||◌, List, [], ◌∷◌, ◌++◌, length, get_or, take, drop, min, max, inl, inr, refl, sym, ap, subst, arith, ⊎_elim}
+use Rattle.std.proofs.Common.{Bool, true, false, ℕ, ◌+◌, ◌%◌, ◌<◌, ◌≤◌, ◌≡◌, ◌∙◌, ◌&&◌, ◌||◌, List, [], ◌∷◌, length, get_or, take, drop, min, max, inl, inr, refl, sym, ap, subst, arith, ⊎_elim}
 use Rattle.std.specs.Prelude.{nat_le, nat_lt}
-use Rattle.std.proofs.lemmas.List.{take_at, drop_at, take-append-drop, length-take-le, length-drop, drop-drop, append_assoc, length-append}
+use Rattle.std.proofs.lemmas.List.{length-take-le, length-drop}
 use Rattle.std.proofs.lemmas.Bool.{or_cases, and_parts, leb-true, ltb-true}
 use Rattle.cfs_pmem.specs.declared.dirty.Dirty.{Dirty}
 use Rattle.cfs_pmem.specs.declared.pick.Pick.{Pick}
@@ -10,27 +10,12 @@ use Rattle.cfs_pmem.specs.Draws.{draw_of, word_left, after_word, byte_left, afte
 use Rattle.cfs_pmem.proofs.Crashes.{left_word, length-each_left, each_left_at, same_each_left}
 use Rattle.cfs_pmem.specs.Range.{with_range}
 use Rattle.cfs_pmem.proofs.Ranges.{with_write, nothing_differs}
-use Rattle.cfs_block.specs.BlockImages.{Content, BlockStep, ranged, tagged, flushed, stalled, content_now, content_kept, patched, with_bytes, with_tag, IsTorn, MayHaveByte, MayHaveTag, IsBlockImage}
+use Rattle.cfs_pmem.specs.Images.{patched}
+use Rattle.cfs_pmem.proofs.Patches.{length-patched, take-patched, drop-patched, patched_same}
+use Rattle.cfs_block.specs.BlockImages.{Content, BlockStep, ranged, tagged, flushed, stalled, content_now, content_kept, with_bytes, with_tag, IsTorn, WriteFails, MayHaveByte, MayHaveTag, IsBlockImage}
 use Rattle.cfs_block.specs.Written.{is_written, is_set, IsSetWithin, block_left, after_block}
 use Rattle.cfs_block.specs.Backed.{IsBacked}
-use Rattle.cfs_block.proofs.BlockLemmas.{length-patched, byte_now, byte_kept, tag_now, tag_kept}
-
-pub take-patched : (bytes : List ℕ) (from : ℕ) (new : List ℕ) → from + length new ≤ length bytes → take from (patched bytes from new) ≡ take from bytes
-take-patched bytes from new l = take_at (take from bytes) (new ++ drop (from + length new) bytes) from (length-take-le from bytes (omega arith))
-
-pub drop-patched : (bytes : List ℕ) (from : ℕ) (new : List ℕ) → from + length new ≤ length bytes → drop (from + length new) (patched bytes from new) ≡ drop (from + length new) bytes
-drop-patched bytes from new l =
-    ap (λ xs. drop (from + length new) xs) (sym (append_assoc (take from bytes) new (drop (from + length new) bytes)))
-    ∙ drop_at (take from bytes ++ new) (drop (from + length new) bytes) (from + length new) (omega (arith, length-append (take from bytes) new, length-take-le from bytes (omega arith)))
-
--- bytes written over themselves
-pub patched_same : (bytes : List ℕ) (from len : ℕ) → from + len ≤ length bytes → patched bytes from (take len (drop from bytes)) ≡ bytes
-patched_same bytes from len l =
-    let size : length (take len (drop from bytes)) ≡ len = length-take-le len (drop from bytes) (omega (arith, length-drop from bytes)) in
-    ap (λ n. take from bytes ++ (take len (drop from bytes) ++ drop (from + n) bytes)) size
-    ∙ ap (λ xs. take from bytes ++ (take len (drop from bytes) ++ xs)) (sym (drop-drop len from bytes))
-    ∙ ap (λ xs. take from bytes ++ xs) (take-append-drop len (drop from bytes))
-    ∙ take-append-drop from bytes
+use Rattle.cfs_block.proofs.BlockLemmas.{byte_now, byte_kept, tag_now, tag_kept}
 
 pub backed_began : (dirty : Dirty) (content : Content) (written : List ℕ) → dirty.from ≤ length content.bytes → dirty.to ≤ length content.bytes → length content.bytes ≡ 4096
     → length written ≡ 64 → ((k : ℕ) → is_set written k ≡ false) → IsBacked (flushed content ∷ []) dirty content content written
@@ -124,15 +109,23 @@ backed_flushed history dirty now written from to full words none = record {
 
 -- a write that failed left the bytes of its range, and all else
 pub torn_leaves : (history : List BlockStep) (dirty : Dirty) (kept now : Content) (written : List ℕ) (device from len : ℕ) → IsBacked history dirty kept now written → from + len ≤ 4096
-    → IsTorn from len record { device = device; history = history } record { device = device; history = ranged from len now ∷ history }
+    → IsTorn from len record { device = device; also = []; history = history } record { device = device; also = []; history = ranged from len now ∷ history }
 torn_leaves history dirty kept now written device from len h fits =
     let left : List ℕ = take len (drop from now.bytes) in
     record {
       left = left;
       size = length-take-le len (drop from now.bytes) (omega (arith, length-drop from now.bytes, h.full));
-      is = ap (λ bs. record { device = device; history = ranged from len record { tag = now.tag; bytes = bs } ∷ history }) (sym (patched_same now.bytes from len (omega (arith, h.full))))
-          ∙ ap (λ c. record { device = device; history = ranged from len (with_bytes from left c) ∷ history }) (sym h.now_is);
+      is = ap (λ bs. record { device = device; also = []; history = ranged from len record { tag = now.tag; bytes = bs } ∷ history }) (sym (patched_same now.bytes from len (omega (arith, h.full))))
+          ∙ ap (λ c. record { device = device; also = []; history = ranged from len (with_bytes from left c) ∷ history }) (sym h.now_is);
     }
+
+-- a write that failed leaves all that is read
+pub write_fails : (keeps : Bool) (history : List BlockStep) (dirty : Dirty) (kept now : Content) (written : List ℕ) (device from len : ℕ) → IsBacked history dirty kept now written → from + len ≤ 4096
+    → WriteFails keeps from len record { device = device; also = []; history = history } record { device = device; also = []; history = ranged from len now ∷ history }
+write_fails keeps history dirty kept now written device from len h fits = record {
+  torn = torn_leaves history dirty kept now written device from len h fits;
+  kept = λ k. ap (λ c. record { device = device; also = []; history = ranged from len c ∷ history }) (sym h.now_is);
+}
 
 -- What a crash leaves of a block.
 

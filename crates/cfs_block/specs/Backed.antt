@@ -5,7 +5,8 @@ use Rattle.cfs_pmem.specs.Range.{DifferWithin}
 use Rattle.cfs_block.specs.BlockImages.{BlockStep, Content, content_now, content_kept}
 use Rattle.cfs_block.specs.Written.{is_written, is_set, IsSetWithin}
 
-pub record IsBacked (history : List BlockStep) (dirty : Dirty) (kept now : Content) (written : List ℕ) : Type 0 where
+pub record IsBacked (history : List BlockStep) (dirty : Dirty) (kept now : Content)
+    (written : List ℕ) : Type 0 where
   pub now_is : content_now history ≡ now
   pub kept_is : content_kept history ≡ kept
   pub differ : DifferWithin dirty kept.bytes now.bytes

@@ -1,7 +1,8 @@
--- What a block holds, and what a crash may leave of it, as definitions over the history of its writing steps.
-use Rattle.std.specs.Prelude.{ℕ, ◌+◌, ◌<◌, ◌≤◌, ◌≡◌, ◌⊎◌, List, [], ◌∷◌, ◌++◌, length, take, drop}
+-- What a block holds, and what a crash may leave of it, as definitions over the history of its
+-- writing steps.
+use Rattle.std.specs.Prelude.{ℕ, ◌+◌, ◌<◌, ◌≤◌, ◌≡◌, ◌⊎◌, Bool, IsTrue, List, [], ◌∷◌, length}
 use Rattle.std.proofs.Math.ListN.{get_or, replicate}
-use Rattle.cfs_pmem.specs.Images.{Seen, stepped}
+use Rattle.cfs_pmem.specs.Images.{Seen, stepped, patched}
 
 -- a tag word and 4096 bytes
 pub record Content : Type 0 where
@@ -39,11 +40,7 @@ content_of seen = content_now seen.history
 
 -- a block that came with this content, which is all that a crash may leave
 abbrev pub began : ℕ → Content → Seen BlockStep
-began device content = record { device = device; history = flushed content ∷ [] }
-
--- those bytes with others written over them from a place on
-abbrev pub patched : List ℕ → ℕ → List ℕ → List ℕ
-patched bytes from new = take from bytes ++ (new ++ drop (from + length new) bytes)
+began device content = record { device = device; also = []; history = flushed content ∷ [] }
 
 abbrev pub with_bytes : ℕ → List ℕ → Content → Content
 with_bytes from new content = record { tag = content.tag; bytes = patched content.bytes from new }
@@ -53,13 +50,24 @@ with_tag tag content = record { tag = tag; bytes = content.bytes }
 
 -- the block after each kind of step that succeeded
 abbrev pub wrote : ℕ → List ℕ → Seen BlockStep → Seen BlockStep
-wrote from new seen = stepped (ranged from (length new) (with_bytes from new (content_of seen))) seen
+wrote from new seen =
+    stepped (ranged from (length new) (with_bytes from new (content_of seen))) seen
 
 abbrev pub retagged : ℕ → Seen BlockStep → Seen BlockStep
 retagged tag seen = stepped (tagged tag (with_tag tag (content_of seen))) seen
 
 abbrev pub kept : Seen BlockStep → Seen BlockStep
 kept seen = stepped (flushed (content_of seen)) seen
+
+-- after a write, a tag and a flush that failed, where all that is read is as it was
+abbrev pub unwritten : ℕ → ℕ → Seen BlockStep → Seen BlockStep
+unwritten from len seen = stepped (ranged from len (content_of seen)) seen
+
+abbrev pub unretagged : ℕ → Seen BlockStep → Seen BlockStep
+unretagged tag seen = stepped (tagged tag (content_of seen)) seen
+
+abbrev pub unflushed : Seen BlockStep → Seen BlockStep
+unflushed seen = stepped (stalled (content_of seen)) seen
 
 -- A write that failed: some bytes stand in its range, and all else is as it was.
 pub record IsTorn (from len : ℕ) (old new : Seen BlockStep) : Type 0 where
@@ -69,18 +77,28 @@ pub record IsTorn (from len : ℕ) (old new : Seen BlockStep) : Type 0 where
 
 -- a tag that was asked for in vain: the old one stands, or the new one
 abbrev pub IsHalfTagged : ℕ → Seen BlockStep → Seen BlockStep → Type 0
-IsHalfTagged tag old new = (new ≡ stepped (tagged tag (content_of old)) old) ⊎ (new ≡ retagged tag old)
+IsHalfTagged tag old new = (new ≡ unretagged tag old) ⊎ (new ≡ retagged tag old)
 
--- a flush that failed
-abbrev pub unflushed : Seen BlockStep → Seen BlockStep
-unflushed seen = stepped (stalled (content_of seen)) seen
+-- A write, and a tag, that failed, of a block that leaves all that is read as it was, or of one
+-- that may not.
+pub record WriteFails (keeps_refused : Bool) (from len : ℕ)
+    (old new : Seen BlockStep) : Type 0 where
+  pub torn : IsTorn from len old new
+  pub kept : IsTrue keeps_refused → new ≡ unwritten from len old
 
--- byte k may be v: since the newest flush that succeeded it was v, or it was in a range that was written, which may hold anything
+pub record TagFails (keeps_refused : Bool) (tag : ℕ) (old new : Seen BlockStep) : Type 0 where
+  pub half : IsHalfTagged tag old new
+  pub kept : IsTrue keeps_refused → new ≡ unretagged tag old
+
+-- byte k may be v: since the newest flush that succeeded it was v, or it was in a range that was
+-- written, which may hold anything
 abbrev pub MayHaveByte : List BlockStep → ℕ → ℕ → Type 0
 MayHaveByte [] k v = ⊥
 MayHaveByte (ranged from len content ∷ before) k v =
-    (v ≡ get_or content.bytes k 0) ⊎ (((from ≤ k) × (k < from + len) × (v < 256)) ⊎ MayHaveByte before k v)
-MayHaveByte (tagged asked content ∷ before) k v = (v ≡ get_or content.bytes k 0) ⊎ MayHaveByte before k v
+    (v ≡ get_or content.bytes k 0) ⊎
+    (((from ≤ k) × (k < from + len) × (v < 256)) ⊎ MayHaveByte before k v)
+MayHaveByte (tagged asked content ∷ before) k v =
+    (v ≡ get_or content.bytes k 0) ⊎ MayHaveByte before k v
 MayHaveByte (flushed content ∷ before) k v = v ≡ get_or content.bytes k 0
 MayHaveByte (stalled content ∷ before) k v = (v ≡ get_or content.bytes k 0) ⊎ MayHaveByte before k v
 
@@ -88,11 +106,13 @@ MayHaveByte (stalled content ∷ before) k v = (v ≡ get_or content.bytes k 0) 
 abbrev pub MayHaveTag : List BlockStep → ℕ → Type 0
 MayHaveTag [] tag = ⊥
 MayHaveTag (ranged from len content ∷ before) tag = (tag ≡ content.tag) ⊎ MayHaveTag before tag
-MayHaveTag (tagged asked content ∷ before) tag = (tag ≡ content.tag) ⊎ ((tag ≡ asked) ⊎ MayHaveTag before tag)
+MayHaveTag (tagged asked content ∷ before) tag =
+    (tag ≡ content.tag) ⊎ ((tag ≡ asked) ⊎ MayHaveTag before tag)
 MayHaveTag (flushed content ∷ before) tag = tag ≡ content.tag
 MayHaveTag (stalled content ∷ before) tag = (tag ≡ content.tag) ⊎ MayHaveTag before tag
 
--- What a crash may leave: a tag that it may have, and in each byte, by itself, a value that it may have.
+-- What a crash may leave: a tag that it may have, and in each byte, by itself, a value that it may
+-- have.
 pub record IsBlockImage (history : List BlockStep) (image : Content) : Type 0 where
   pub size : length image.bytes ≡ length (content_now history).bytes
   pub bytes : (k : ℕ) → k < length image.bytes → MayHaveByte history k (get_or image.bytes k 0)
@@ -110,7 +130,8 @@ IsSureBlock seen = AllBlockImages seen (λ image. image ≡ content_of seen)
 pub record DiffersWithin (from len : ℕ) (first image : Content) : Type 0 where
   pub tag : image.tag ≡ first.tag
   pub size : length image.bytes ≡ length first.bytes
-  pub outside : (k : ℕ) → (k < from) ⊎ (from + len ≤ k) → get_or image.bytes k 0 ≡ get_or first.bytes k 0
+  pub outside : (k : ℕ) → (k < from) ⊎ (from + len ≤ k)
+      → get_or image.bytes k 0 ≡ get_or first.bytes k 0
 
 -- an image of that block, with any bytes in the range
 pub record IsRangedFrom (seen : Seen BlockStep) (from len : ℕ) (image : Content) : Type 0 where
@@ -124,14 +145,13 @@ pub record IsTaggedFrom (seen : Seen BlockStep) (tag : ℕ) (image : Content) : 
   pub possible : IsBlockImage seen.history first
   pub same : (image ≡ first) ⊎ (image ≡ with_tag tag first)
 
--- Of a call that sets a tag and flushes it: it stopped at the tag, which stands or not, or at the flush.
-abbrev pub RetagStopped : ℕ → List ℕ → Seen BlockStep → List ℕ → Seen BlockStep → Type 0
-RetagStopped tag steps_old old steps_new new =
-    (IsHalfTagged tag old new × (steps_new ≡ old.device ∷ steps_old)) ⊎ ((new ≡ unflushed (retagged tag old)) × (steps_new ≡ old.device ∷ old.device ∷ steps_old))
-
 -- no file has the block
 abbrev pub IsUntagged : Content → Type 0
 IsUntagged content = content.tag ≡ 0
 
+-- the bytes of a block that holds zeros
+unfoldable pub zeros : List ℕ
+zeros = replicate 4096 0
+
 abbrev pub IsZero : Content → Type 0
-IsZero content = content ≡ record { tag = 0; bytes = replicate 4096 0 }
+IsZero content = content ≡ record { tag = 0; bytes = zeros }

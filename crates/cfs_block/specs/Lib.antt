@@ -1,7 +1,9 @@
 pub mod Backed
 pub mod BlockImages
+pub mod BlockOps
+pub mod Devices
 pub mod Log
-pub mod Medium
 pub mod MemoryBlocks
+pub mod Shadows
 pub mod Untagged
 pub mod Written

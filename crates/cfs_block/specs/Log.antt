@@ -5,7 +5,11 @@ use Rattle.cfs_block.specs.declared.history.Past.{Past, Start, Ranged', Tagged',
 
 abbrev pub block_steps : Past → List BlockStep
 block_steps Start = []
-block_steps (Ranged' from len tag bytes shape before) = ranged from len record { tag = tag; bytes = bytes.value.items } ∷ block_steps before
-block_steps (Tagged' asked tag bytes shape before) = tagged asked record { tag = tag; bytes = bytes.value.items } ∷ block_steps before
-block_steps (Flushed' tag bytes shape before) = flushed record { tag = tag; bytes = bytes.value.items } ∷ block_steps before
-block_steps (Stalled' tag bytes shape before) = stalled record { tag = tag; bytes = bytes.value.items } ∷ block_steps before
+block_steps (Ranged' from len tag bytes shape before) =
+    ranged from len record { tag = tag; bytes = bytes.value.items } ∷ block_steps before
+block_steps (Tagged' asked tag bytes shape before) =
+    tagged asked record { tag = tag; bytes = bytes.value.items } ∷ block_steps before
+block_steps (Flushed' tag bytes shape before) =
+    flushed record { tag = tag; bytes = bytes.value.items } ∷ block_steps before
+block_steps (Stalled' tag bytes shape before) =
+    stalled record { tag = tag; bytes = bytes.value.items } ∷ block_steps before

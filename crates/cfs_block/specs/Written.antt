@@ -1,4 +1,5 @@
--- Which bytes of a block were written since the newest flush that succeeded, what a crash leaves of them, and the bits that note them.
+-- Which bytes of a block were written since the newest flush that succeeded, what a crash leaves of
+-- them, and the bits that note them.
 use Rattle.std.specs.Prelude.{ℕ, ◌+◌, ◌/◌, ◌%◌, ◌<◌, ◌≤◌, ◌≡◌, ◌==◌, ◌&&◌, ◌||◌, nat_lt, nat_le, Bool, true, false, List, [], ◌∷◌}
 use Rattle.std.specs.Int.{bit_at}
 use Rattle.std.proofs.Math.ListN.{get_or}
@@ -8,7 +9,8 @@ use Rattle.cfs_block.specs.BlockImages.{BlockStep, ranged, tagged, flushed, stal
 
 abbrev pub is_written : List BlockStep → ℕ → Bool
 is_written [] k = false
-is_written (ranged from len content ∷ before) k = (nat_le from k && nat_lt k (from + len)) || is_written before k
+is_written (ranged from len content ∷ before) k =
+    (nat_le from k && nat_lt k (from + len)) || is_written before k
 is_written (tagged asked content ∷ before) k = is_written before k
 is_written (flushed content ∷ before) k = false
 is_written (stalled content ∷ before) k = is_written before k
@@ -23,11 +25,16 @@ IsSetWithin from to words = (k : ℕ) → is_set words k ≡ true → (from ≤ 
 
 -- the content that a crash leaves, the tag first and then byte by byte, and the pick behind it
 abbrev pub block_left : Pick → List BlockStep → Content
-block_left pick history = let kept : Content = content_kept history in let now : Content = content_now history in record {
-  tag = word_left pick kept.tag now.tag;
-  bytes = each_left (λ k. byte_left (is_written history k)) (λ k. after_byte (is_written history k)) (after_word pick kept.tag now.tag) 0 kept.bytes now.bytes;
-}
+block_left pick history =
+    let kept : Content = content_kept history in let now : Content = content_now history in record {
+      tag = word_left pick kept.tag now.tag;
+      bytes =
+          each_left (λ k. byte_left (is_written history k)) (λ k. after_byte (is_written history k))
+          (after_word pick kept.tag now.tag) 0 kept.bytes now.bytes;
+    }
 
 abbrev pub after_block : Pick → List BlockStep → Pick
-after_block pick history = let kept : Content = content_kept history in let now : Content = content_now history in
-    after_each (λ k. after_byte (is_written history k)) (after_word pick kept.tag now.tag) 0 kept.bytes now.bytes
+after_block pick history =
+    let kept : Content = content_kept history in let now : Content = content_now history in
+    after_each (λ k. after_byte (is_written history k))
+    (after_word pick kept.tag now.tag) 0 kept.bytes now.bytes

@@ -1,9 +1,8 @@
 //! Blocks that no file has.
-ghost use Rattle.std.specs.Prelude.{◌≡◌, ◌∷◌, [], IsTrue, IfOk, OnOk, OnErr, replicate};
+ghost use Rattle.std.specs.Prelude.{◌≡◌, OnOk};
 ghost use Rattle.cfs_pmem.specs.Faults.{HasCause};
-ghost use Rattle.cfs_pmem.specs.Moments.{Moments};
-ghost use Rattle.cfs_pmem.specs.Steps.{StopsIn};
-ghost use Rattle.cfs_block.specs.BlockImages.{AllBlockImages, IsBlockImage, IsUntagged, IsZero, content_of, wrote, kept};
+ghost use Rattle.cfs_block.specs.BlockImages.{AllBlockImages, IsUntagged, IsZero};
+ghost use Rattle.cfs_block.specs.BlockOps.{Clears};
 
 use crate::block::{BLOCK_LEN, Block};
 use cfs_pmem::{DeviceFault, Power};
@@ -24,19 +23,16 @@ pub struct ZeroBlock<B: Block> {
 
 static ZEROS: [u8; BLOCK_LEN] = [0; BLOCK_LEN];
 
-/// Writes zeros over all bytes of an untagged block and flushes them: two writing steps, or as many as there are up to the one that fails.
+/// Writes zeros over all bytes of an untagged block and flushes them: two writing steps, or as many
+/// as there are up to the one that fails.
 fn clear<B: Block, P: Power>(block: &mut B, power: &mut P) -> Result<(), DeviceFault>
     requires { AllBlockImages (B.seen block.old) IsUntagged }
+    ensures cleared { Clears B.obeys_power B.keeps_refused result
+        (P.asked power.old) (B.seen block.old) (P.asked power.new) (B.seen block.new) }
     ensures zero { OnOk result (AllBlockImages (B.seen block.new) IsZero) }
     ensures untagged { AllBlockImages (B.seen block.new) IsUntagged }
-    ensures moments { Moments IsBlockImage IsUntagged (P.steps power.old) (B.seen block.old) (P.steps power.new) (B.seen block.new) }
-    ensures made { OnOk result (P.steps power.new ≡ (B.seen block.old).device ∷ (B.seen block.old).device ∷ P.steps power.old) }
-    ensures stopped { OnErr result (StopsIn ((B.seen block.old).device ∷ (B.seen block.old).device ∷ []) (P.steps power.old) (P.steps power.new)) }
-    ensures reads { P.reads power.new ≡ P.reads power.old }
-    ensures device { (B.seen block.new).device ≡ (B.seen block.old).device }
     ensures number { B.number block.new ≡ B.number block.old }
     ensures cause { HasCause (B.faults block.old) (B.faults block.new) result }
-    ensures power { IsTrue B.obeys_power → HasCause (P.refused power.old) (P.refused power.new) result }
 {
     block.write(power, 0, &ZEROS)?;
     block.flush(power)?;
@@ -70,17 +66,15 @@ impl<B: Block> FreeBlock<B> {
         block
     }
 
-    /// Makes it zero in every image, by a write of all its bytes and a flush. At each moment it is untagged in every image.
-    /// A device fault, and nothing else, gives it back untagged, and with any bytes.
+    /// Makes it zero in every image, by a write of all its bytes and a flush. At each moment it is
+    /// untagged in every image.
+    /// A device fault, and nothing else, gives it back untagged: at the write, where some of the
+    /// zeros may stand, or at the flush.
     pub fn zero<P: Power>(self, power: &mut P) -> Result<ZeroBlock<B>, FreeBlock<B>>
-        ensures moments { Moments IsBlockImage IsUntagged (P.steps power.old) (B.seen self.block) (P.steps power.new) (B.seen (block_in result)) }
-        ensures made { OnOk result (P.steps power.new ≡ (B.seen self.block).device ∷ (B.seen self.block).device ∷ P.steps power.old) }
-        ensures stopped { OnErr result (StopsIn ((B.seen self.block).device ∷ (B.seen self.block).device ∷ []) (P.steps power.old) (P.steps power.new)) }
-        ensures reads { P.reads power.new ≡ P.reads power.old }
-        ensures device { (B.seen (block_in result)).device ≡ (B.seen self.block).device }
+        ensures cleared { Clears B.obeys_power B.keeps_refused result
+            (P.asked power.old) (B.seen self.block) (P.asked power.new) (B.seen (block_in result)) }
         ensures number { B.number (block_in result) ≡ B.number self.block }
         ensures cause { HasCause (B.faults self.block) (B.faults (block_in result)) result }
-        ensures power { IsTrue B.obeys_power → HasCause (P.refused power.old) (P.refused power.new) result }
     {
         let FreeBlock { mut block } = self;
         match clear(&mut block, power) {

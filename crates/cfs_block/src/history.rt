@@ -6,7 +6,8 @@ use std::marker::Model;
 use std::mem;
 use std::snapshot::Snapshot;
 
-/// The content after each writing step of a block. Contracts alone read it, as a list of `BlockStep`, the newest first.
+/// The content after each writing step of a block. Contracts alone read it, as a list of
+/// `BlockStep`, the newest first.
 #[derive(Drop)]
 pub struct BlockHistory {
     past: Snapshot<Past>,
@@ -50,7 +51,8 @@ impl BlockHistory {
     /// Notes a write of `len` bytes from `from` on, or one that failed, with the content after it.
     #[inline]
     pub fn range(&mut self, from: usize, len: usize, tag: u64, bytes: &Vec<u8>)
-        ensures { self.new ≡ ranged from len record { tag = tag; bytes = bytes.now.items } ∷ self.old }
+        ensures { self.new ≡
+            ranged from len record { tag = tag; bytes = bytes.now.items } ∷ self.old }
     {
         let before = mem::replace(&mut self.past, Snapshot::of(&Past::Start));
         self.past = Snapshot::of(&Past::Ranged(from, len, tag, Snapshot::of(bytes), before));

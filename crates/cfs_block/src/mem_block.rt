@@ -1,6 +1,7 @@
 //! A block in memory, with what a crash may leave of it.
-ghost use Rattle.std.specs.Prelude.{◌≡◌, ◌+◌, ◌*◌, ◌≤◌, true, length, IfOk, IfErr, vec_len};
-ghost use Rattle.cfs_block.specs.BlockImages.{began, content_of, patched, IsBlockImage};
+ghost use Rattle.std.specs.Prelude.{◌≡◌, ◌+◌, ◌*◌, ◌≤◌, [], true, length, IfOk, IfErr, vec_len};
+ghost use Rattle.cfs_block.specs.BlockImages.{began, content_of, IsBlockImage};
+ghost use Rattle.cfs_pmem.specs.Images.{patched};
 ghost use Rattle.cfs_block.specs.Backed.{IsBacked};
 ghost use Rattle.cfs_block.specs.Written.{block_left, after_block, is_set};
 ghost use Rattle.cfs_pmem.specs.Draws.{byte_left, after_byte, each_left, after_each};
@@ -12,7 +13,8 @@ use crate::written;
 use cfs_pmem::{DeviceFault, Dirty, Pick, Power};
 use std::alloc::{AllocFailed, Global};
 
-/// A block that keeps a durable and a present copy of its bytes and its tag, and a bit for each byte that was in the range of a write since the last flush.
+/// A block that keeps a durable and a present copy of its bytes and its tag, and a bit for each
+/// byte that was in the range of a write since the last flush.
 /// It takes no memory once it is made, and a flush costs what was written since the last one.
 #[derive(Drop)]
 pub struct MemBlock {
@@ -26,13 +28,16 @@ pub struct MemBlock {
     dirty: Dirty,
     history: BlockHistory,
     faults: u64,
-    ghost backed: { IsBacked history dirty record { tag = durable_tag; bytes = durable.items } record { tag = tag; bytes = present.items } written.items },
+    ghost backed: { IsBacked history dirty
+        record { tag = durable_tag; bytes = durable.items }
+        record { tag = tag; bytes = present.items } written.items },
 }
 
 impl MemBlock {
     ghost use Rattle.cfs_block.specs.MemoryBlocks.{seen_of, number_of, faults_of};
 
-    /// A block of this content, which is durable. Without memory for the second copy and the bits the bytes are given back.
+    /// A block of this content, which is durable. Without memory for the second copy and the bits
+    /// the bytes are given back.
     pub fn new(
         alloc: Global,
         device: u32,
@@ -41,7 +46,8 @@ impl MemBlock {
         bytes: Vec<u8>,
     ) -> Result<MemBlock, AllocFailed<Vec<u8>>>
         requires { vec_len bytes ≡ 4096 }
-        ensures ok { IfOk result (λ block. seen_of block ≡ began device record { tag = tag; bytes = bytes.items }) }
+        ensures ok { IfOk result (λ block.
+            seen_of block ≡ began device record { tag = tag; bytes = bytes.items }) }
         ensures number { IfOk result (λ block. number_of block ≡ number) }
         ensures faults { IfOk result (λ block. faults_of block ≡ 0) }
         ensures err { IfErr result (λ refused. refused.value ≡ bytes) }
@@ -80,11 +86,13 @@ impl MemBlock {
         self.tag
     }
 
-    /// Loses power: one image is left, as the pick says, the tag first and then byte by byte, and both copies and all that a later crash may leave are that image.
+    /// Loses power: one image is left, as the pick says, the tag first and then byte by byte, and
+    /// both copies and all that a later crash may leave are that image.
     /// The clock begins anew.
     pub fn crash(&mut self, pick: &mut Pick)
         ensures image { IsBlockImage (seen_of self.old).history (content_of (seen_of self.new)) }
-        ensures left { seen_of self.new ≡ began (seen_of self.old).device (block_left pick.old (seen_of self.old).history) }
+        ensures left { seen_of self.new ≡
+            began (seen_of self.old).device (block_left pick.old (seen_of self.old).history) }
         ensures pick { pick.new ≡ after_block pick.old (seen_of self.old).history }
         ensures number { number_of self.new ≡ number_of self.old }
         ensures faults { faults_of self.new ≡ faults_of self.old }
@@ -111,11 +119,15 @@ fn put(present: &mut Vec<u8>, from: usize, bytes: &[u8])
 fn leave(pick: &mut Pick, written: &Vec<u64>, durable: &mut Vec<u8>, present: &mut Vec<u8>)
     requires sizes { length durable.old.items ≡ length present.old.items }
     requires bits { length present.old.items ≤ 64 * length written.now.items }
-    ensures present { present.new.items ≡ each_left (λ k. byte_left (is_set written.now.items k)) (λ k. after_byte (is_set written.now.items k))
+    ensures present { present.new.items ≡
+        each_left (λ k. byte_left (is_set written.now.items k))
+        (λ k. after_byte (is_set written.now.items k))
         pick.old 0 durable.old.items present.old.items }
     ensures durable { durable.new.items ≡ present.new.items }
     ensures size { length present.new.items ≡ length present.old.items }
-    ensures pick { pick.new ≡ after_each (λ k. after_byte (is_set written.now.items k)) pick.old 0 durable.old.items present.old.items }
+    ensures pick { pick.new ≡
+        after_each (λ k. after_byte (is_set written.now.items k))
+        pick.old 0 durable.old.items present.old.items }
 {
     for i in 0..present.len() {
         let byte = pick.byte(written::is_set(written, i), durable[i], present[i]);
@@ -125,13 +137,15 @@ fn leave(pick: &mut Pick, written: &Vec<u64>, durable: &mut Vec<u8>, present: &m
 }
 
 impl Block for MemBlock {
-    ghost seen = { λ b. record { device = b.device; history = b.history } };
+    ghost seen = { λ b. record { device = b.device; also = []; history = b.history } };
 
     ghost number = { λ b. b.number };
 
     ghost faults = { λ b. b.faults };
 
     ghost obeys_power = { true };
+
+    ghost keeps_refused = { true };
 
     ghost full = { λ b. Prim.search rules };
 
@@ -143,6 +157,7 @@ impl Block for MemBlock {
         self.number
     }
 
+    #[tactic(auto, using(cfs_pmem::proofs::AskLemmas::asks_one))]
     fn read<P: Power>(
         &mut self,
         power: &mut P,
@@ -158,6 +173,7 @@ impl Block for MemBlock {
         Ok(())
     }
 
+    #[tactic(auto, using(cfs_pmem::proofs::AskLemmas::asks_one))]
     fn write<P: Power>(
         &mut self,
         power: &mut P,
@@ -181,6 +197,7 @@ impl Block for MemBlock {
         Ok(())
     }
 
+    #[tactic(auto, using(cfs_pmem::proofs::AskLemmas::asks_one))]
     fn tag<P: Power>(&mut self, power: &mut P) -> Result<u64, DeviceFault> {
         if !power.step(self.device, false) {
             self.faults = self.faults.saturating_add(1);
@@ -189,6 +206,7 @@ impl Block for MemBlock {
         Ok(self.tag)
     }
 
+    #[tactic(auto, using(cfs_pmem::proofs::AskLemmas::asks_one))]
     fn set_tag<P: Power>(&mut self, power: &mut P, tag: u64) -> Result<(), DeviceFault> {
         if !power.step(self.device, true) {
             self.faults = self.faults.saturating_add(1);
@@ -200,6 +218,7 @@ impl Block for MemBlock {
         Ok(())
     }
 
+    #[tactic(auto, using(cfs_pmem::proofs::AskLemmas::asks_one))]
     fn flush<P: Power>(&mut self, power: &mut P) -> Result<(), DeviceFault> {
         if !power.step(self.device, true) {
             self.faults = self.faults.saturating_add(1);

@@ -27,7 +27,8 @@ fn run_of_ones(low: usize, high: usize) -> u64
 pub fn set_range(written: &mut Vec<u64>, from: usize, to: usize)
     requires order { from ≤ to }
     requires fits { to ≤ 64 * length written.old.items }
-    ensures bits { (k : ℕ) → is_set written.new.items k ≡ ((nat_le from k && nat_lt k to) || is_set written.old.items k) }
+    ensures bits { (k : ℕ) → is_set written.new.items k ≡
+        ((nat_le from k && nat_lt k to) || is_set written.old.items k) }
     ensures size { length written.new.items ≡ length written.old.items }
 {
     for i in from / 64..to.div_ceil(64) {

@@ -20,17 +20,24 @@ set_unsure Off can = cc
 set_unsure On can = refl
 set_unsure Unsure can = refl
 
-pub marks-covered : (core : Core) (image : Image) → IsLogged core → is_image core image ≡ true → (place : ℕ) → bit_at image.marks place ≡ true →
-    (by : ℕ) × ((place < by) × (reaches_over (track core.tracks by).span (track core.tracks place).span ≡ true))
+pub marks-covered : (core : Core) (image : Image) → IsLogged core → is_image core image ≡ true →
+    (place : ℕ) → bit_at image.marks place ≡ true →
+    (by : ℕ) × ((place < by)
+    × (reaches_over (track core.tracks by).span (track core.tracks place).span ≡ true))
 marks-covered core image logged h place bit =
     let some = some_bit image.marks place bit in
-    let at_place : track core.tracks place ≡ get_or core.tracks (place - 1) blank = track_is core.tracks place (place - 1) some.0 refl in
+    let at_place : track core.tracks place ≡ get_or core.tracks (place - 1) blank =
+    track_is core.tracks place (place - 1) some.0 refl in
     elim (cases_lt (place - 1) (length core.tracks)) [
       | inl within ↦
-          let by = logged.covered (place - 1) (set_unsure (at core (place - 1)).mark (rw some.1 at (mark_allowed core image (place - 1) h within))) in
+          let by = logged.covered (place - 1)
+          (set_unsure (at core (place - 1)).mark
+          (rw some.1 at (mark_allowed core image (place - 1) h within))) in
           (by.0 + 1, (above some.0 by.0 by.1.0, rw (at-next core by.0, at_place) by.1.1.1))
       | inr past ↦
-          let none : get_or image.marks (place - 1) false ≡ false = get_or_past image.marks (place - 1) false (omega (arith, as_many_marks core image h)) in
+          let none : get_or image.marks (place - 1) false ≡ false =
+          get_or_past image.marks (place - 1) false
+          (omega (arith, as_many_marks core image h)) in
           absurd (no_clash (get_or image.marks (place - 1) false) some.1 none)
     ]
   where

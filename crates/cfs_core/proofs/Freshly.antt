@@ -4,7 +4,7 @@ use Rattle.std.specs.List.{list_all}
 use Rattle.std.proofs.lemmas.Bool.Decides.{nat_tests}
 use Rattle.std.proofs.lemmas.List.{get_or_past}
 use Rattle.cfs_file.proofs.Logs.{IsLegal-none}
-use Rattle.cfs_core.specs.declared.block.TheConstants.{BLOCK}
+use Rattle.cfs_file.specs.declared.sizes.TheConstants.{BLOCK_LEN}
 use Rattle.cfs_core.specs.declared.flag.Flag.{Flag}
 use Rattle.cfs_core.specs.declared.flag.Flag.TheVariants.{Off, On, Unsure}
 use Rattle.cfs_core.specs.declared.inode_core.Core.{Core}
@@ -14,9 +14,8 @@ use Rattle.cfs_core.specs.Fresh.{IsEmpty, IsFresh, is_sure}
 use Rattle.cfs_core.proofs.Alive.{sound-empty}
 use Rattle.cfs_core.proofs.Apart.{apart-empty}
 use Rattle.cfs_core.proofs.Kept.{IsKept, IsLive, IsStored, IsUnserved, IsView, at, file_at}
-use Rattle.cfs_core.proofs.Legal.{both}
+use Rattle.cfs_core.proofs.Legal.{and_all, both}
 use Rattle.cfs_core.proofs.LoggedCrash.{logged-fresh}
-use Rattle.cfs_core.proofs.Moments.{and_all}
 use Rattle.cfs_core.proofs.Order.{ordered-empty}
 
 at-fresh : (core : Core) → IsFresh core → (k : ℕ) → at core k ≡ blank
@@ -78,6 +77,7 @@ fresh-empty core empty = record {
   blocks = empty.blocks;
   tags = sure core.tags empty.tags;
   bytes = λ p. rests_nothing p;
+  blank = λ p off. rw empty.bytes refl;
   loose = empty.loose;
   up = empty.up;
 }
@@ -103,5 +103,5 @@ fresh-empty core empty = record {
 
     rests_nothing : (p : ℕ) → rests core p (get_or core.base p 0) ≡ true
     rests_nothing p =
-        let flag : get_or core.tags (p / BLOCK) Off ≡ Off = off_at core.tags (p / BLOCK) empty.tags in
+        let flag : get_or core.tags (p / BLOCK_LEN) Off ≡ Off = off_at core.tags (p / BLOCK_LEN) empty.tags in
         rw (flag, empty.base) refl

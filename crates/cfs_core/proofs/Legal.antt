@@ -22,15 +22,25 @@ pub both : (a b : Bool) → (a && b) ≡ true → (a ≡ true) × (b ≡ true)
 both true b h = (refl, h)
 both false b h = cc
 
+pub and_all : (a b : Bool) → a ≡ true → b ≡ true → (a && b) ≡ true
+and_all true b h k = k
+and_all false b h k = h
+
+pub or_right : (a b : Bool) → b ≡ true → (a || b) ≡ true
+or_right true b h = refl
+or_right false b h = h
+
 pub neither : (a b : Bool) → (a || b) ≡ false → (a ≡ false) × (b ≡ false)
 neither true b h = cc
 neither false b h = (refl, h)
 
 -- the next entry, whose file is short enough
 pub IsLegal-next : (base : List ℕ) (log : List Entry) (entry : Entry) → IsLegal base log [] →
-    entry.place ≡ length log + 1 → IsFile (effect (file_of base log) entry.request) → IsLegal base (log ++ entry ∷ []) []
+    entry.place ≡ length log + 1 → IsFile (effect (file_of base log) entry.request) →
+    IsLegal base (log ++ entry ∷ []) []
 IsLegal-next base log entry legal next file =
-    let whole : file_of base (log ++ entry ∷ []) ≡ effect (file_of base log) entry.request = file_of-append base log (entry ∷ []) in
+    let whole : file_of base (log ++ entry ∷ []) ≡ effect (file_of base log) entry.request =
+    file_of-append base log (entry ∷ []) in
     record {
       places = λ k e is. elim (slice_get-snoc log entry k e is) [
         | inl within ↦ legal.places k e within.1
@@ -51,7 +61,8 @@ file_now base log legal =
     let all : take (length log) log ≡ log = take_all (length log) log (omega arith) in
     rw all at (legal.files (length log) (omega arith))
 
-query_file : (file : List ℕ) (request : Request) → is_query request ≡ true → IsFile file → IsFile (effect file request)
+query_file : (file : List ℕ) (request : Request) → is_query request ≡ true → IsFile file →
+    IsFile (effect file request)
 query_file file (requests.Write offset bytes) h is = cc
 query_file file (requests.Append bytes) h is = cc
 query_file file (requests.Truncate n) h is = cc
@@ -67,7 +78,8 @@ at_most a b h = grind (arith, nat_tests)
 abbrev IsOrderly : Core → Type 0
 IsOrderly core = IsLegal core.base core.log []
 
-admit : (core : Core) (entry : Entry) (grant : ℕ) (kept : Bool) → IsOrderly core → may_admit core entry ≡ true → IsOrderly (after core (events.Admit entry grant kept))
+admit : (core : Core) (entry : Entry) (grant : ℕ) (kept : Bool) → IsOrderly core →
+    may_admit core entry ≡ true → IsOrderly (after core (events.Admit entry grant kept))
 admit core entry grant false legal may_be = legal
 admit core entry grant true legal may_be =
     let rest = both _ _ may_be in
@@ -92,9 +104,11 @@ is_mount events.Settle = false
 is_mount (events.Crash image) = false
 is_mount events.Mount = true
 
-pub legal-after : (core : Core) (event : Event) → IsOrderly core → case core event ≡ true → is_mount event ≡ false → IsOrderly (after core event)
+pub legal-after : (core : Core) (event : Event) → IsOrderly core → case core event ≡ true →
+    is_mount event ≡ false → IsOrderly (after core event)
 legal-after core (events.Tag block kept) legal may_be calm = legal
-legal-after core (events.Admit entry grant kept) legal may_be calm = admit core entry grant kept legal may_be
+legal-after core (events.Admit entry grant kept) legal may_be calm =
+    admit core entry grant kept legal may_be
 legal-after core (events.AdmitRead entry) legal may_be calm =
     let rest = both _ _ may_be in
     IsLegal-next core.base core.log entry legal (same_number _ _ rest.0)
@@ -108,9 +122,11 @@ legal-after core (events.Flush place block true) legal may_be calm = legal
 legal-after core (events.Flush place block false) legal may_be calm = legal
 legal-after core (events.Finish place ends.Retired) legal may_be calm = legal
 legal-after core (events.Finish place ends.More) legal may_be calm = legal
-legal-after core (events.Finish place (ends.Back sizes.AsBefore gate applied)) legal may_be calm = legal
+legal-after core (events.Finish place (ends.Back sizes.AsBefore gate applied)) legal may_be calm =
+    legal
 legal-after core (events.Finish place (ends.Back sizes.Set gate applied)) legal may_be calm = legal
-legal-after core (events.Finish place (ends.Back sizes.Either gate applied)) legal may_be calm = legal
+legal-after core (events.Finish place (ends.Back sizes.Either gate applied)) legal may_be calm =
+    legal
 legal-after core (events.Skip place) legal may_be calm = legal
 legal-after core (events.Trim block kept) legal may_be calm = legal
 legal-after core events.Settle legal may_be calm = legal

@@ -1,5 +1,5 @@
--- What keeps the log's part of the invariant: tracks that follow the old ones, a medium that keeps the
--- blocks, and a track that is put in place of another.
+-- What keeps the log's part of the invariant: tracks that follow the old ones, a medium that keeps
+-- the blocks, and a track that is put in place of another.
 use Rattle.std.proofs.Common.{◌≡◌, ◌⊎◌, inl, inr, ℕ, ◌-◌, ◌<◌, Bool, true, false, Option, Some, List, get_or, set, arith, refl}
 use Rattle.std.proofs.lemmas.Bool.{cases_lt}
 use Rattle.cfs_file.specs.Span.{meets, reaches_over}
@@ -17,27 +17,35 @@ use Rattle.cfs_core.proofs.Kept.{Alters, IsChange, IsDoubtful, IsLast, IsLive, I
 
 -- no unserved read before the entry overlaps it
 abbrev pub IsClear : Core → ℕ → Type 0
-IsClear core k = (v : ℕ) → v < k → IsUnserved core v → meets (at core v).span (at core k).span ≡ false
+IsClear core k = (v : ℕ) → v < k → IsUnserved core v →
+    meets (at core v).span (at core k).span ≡ false
 
 -- a later change has all positions of the entry
 abbrev pub IsCovered : Core → ℕ → Type 0
-IsCovered core k = (by : ℕ) × ((k < by) × (IsChange core by × (reaches_over (at core by).span (at core k).span ≡ true)))
+IsCovered core k =
+    (by : ℕ) × ((k < by)
+    × (IsChange core by × (reaches_over (at core by).span (at core k).span ≡ true)))
 
 -- where the entry is the last before a view that has a position, no earlier live entry has it
 abbrev pub IsAlone : Core → ℕ → Type 0
-IsAlone core k = (v i p : ℕ) → IsView core v p → IsLast core v p k → i < k → IsLive core i → Alters core i p → ⊥
+IsAlone core k = (v i p : ℕ) → IsView core v p → IsLast core v p k → i < k → IsLive core i →
+    Alters core i p → ⊥
 
 -- What other tracks keep of those of a core.
 pub record TracksFollow (core : Core) (tracks : List Track) : Type 0 where
   pub span : (k : ℕ) → (get_or tracks k blank).span ≡ (at core k).span
   pub live : (k : ℕ) → is_live (get_or tracks k blank).state ≡ true → IsLive core k
   pub asks : (k : ℕ) → is_unserved (get_or tracks k blank).state ≡ true → IsUnserved core k
-  pub busy : (k : ℕ) → is_busy (get_or tracks k blank) ≡ true → (is_busy (at core k) ≡ true) ⊎ (IsLive core k × IsClear core k)
-  pub idle : (k block : ℕ) → (get_or tracks k blank).applied ≡ true → has_block (get_or tracks k blank).state block ≡ false
+  pub busy : (k : ℕ) → is_busy (get_or tracks k blank) ≡ true →
+      (is_busy (at core k) ≡ true) ⊎ (IsLive core k × IsClear core k)
+  pub idle : (k block : ℕ) → (get_or tracks k blank).applied ≡ true →
+      has_block (get_or tracks k blank).state block ≡ false
   pub mark : (k : ℕ) → is_off (get_or tracks k blank).mark ≡ false → IsCovered core k
-  pub falls : (k : ℕ) → IsLive core k → (is_live (get_or tracks k blank).state ≡ true) ⊎ IsAlone core k
+  pub falls : (k : ℕ) → IsLive core k →
+      (is_live (get_or tracks k blank).state ≡ true) ⊎ IsAlone core k
 
-pub logged_follows : (core : Core) (tracks : List Track) → IsLogged core → TracksFollow core tracks → IsLogged (record core { tracks = tracks })
+pub logged_follows : (core : Core) (tracks : List Track) → IsLogged core →
+    TracksFollow core tracks → IsLogged (record core { tracks = tracks })
 logged_follows core tracks logged follows = record {
   kinds = logged.kinds;
   spans = λ k entry is. rw (follows.span k) (logged.spans k entry is);
@@ -52,7 +60,8 @@ logged_follows core tracks logged follows = record {
   covered = λ k off.
       let by = follows.mark k off in
       (by.0, (by.1.0, (by.1.1.0, rw (follows.span by.0, follows.span k) by.1.1.1)));
-  order = λ v i p view less live alters. order v i p (old_view v p view) less live (old_alters i p alters);
+  order = λ v i p view less live alters.
+      order v i p (old_view v p view) less live (old_alters i p alters);
   clear = λ v k less asks busy. rw (follows.span v, follows.span k) (elim (follows.busy k busy) [
     | inl was ↦ logged.clear v k less (follows.asks v asks) was
     | inr taken ↦ taken.1 v less (follows.asks v asks)
@@ -72,10 +81,17 @@ logged_follows core tracks logged follows = record {
     old_alters k p alters = (alters.0, rw (follows.span k) at alters.1)
 
     last : (v p m : ℕ) → IsLast core v p m → IsLast (record core { tracks = tracks }) v p m
-    last v p m is = (is.0, (is.1.0, rw (follows.span m) is.1.1), λ j later before alters. is.2 j later before (old_alters j p alters))
+    last v p m is = (
+      is.0,
+      (is.1.0, rw (follows.span m) is.1.1),
+      λ j later before alters.
+          is.2 j later before (old_alters j p alters),
+    )
 
-    order : (v i p : ℕ) → IsView core v p → i < v → is_live (get_or tracks i blank).state ≡ true → Alters core i p →
-        (m : ℕ) × (IsLive (record core { tracks = tracks }) m × IsLast (record core { tracks = tracks }) v p m)
+    order : (v i p : ℕ) → IsView core v p → i < v → is_live (get_or tracks i blank).state ≡ true →
+        Alters core i p →
+        (m : ℕ) × (IsLive (record core { tracks = tracks }) m
+        × IsLast (record core { tracks = tracks }) v p m)
     order v i p view less live alters =
         let found = logged.order v i p view less (follows.live i live) alters in
         elim (follows.falls found.0 found.1.0) [
@@ -84,16 +100,26 @@ logged_follows core tracks logged follows = record {
             | inl same ↦ (found.0, (rw same live, last v p found.0 found.1.1))
             | inr other ↦ elim (cases_lt found.0 i) [
               | inl later ↦ absurd (found.1.1.2 i later less alters)
-              | inr up ↦ absurd (alone v i p view found.1.1 (omega arith) (follows.live i live) alters)
+              | inr up ↦
+                  absurd (alone v i p view found.1.1 (omega arith) (follows.live i live) alters)
             ]
           ]
         ]
 
 -- the log and the tracks stay, and the blocks of what is live or in doubt stay mapped
-pub logged_beside : (core : Core) (doubt : Option Doubt) (size : ℕ) (sizes : List ℕ) (tags : List Flag) (bytes : List ℕ) (loose : List Stretch) (crashed : Bool) →
+pub logged_beside : (core : Core) (doubt : Option Doubt) (size : ℕ) (sizes : List ℕ)
+    (tags : List Flag) (bytes : List ℕ) (loose : List Stretch) (crashed : Bool) →
     IsLogged core → ((k : ℕ) → IsLive core k → is_mapped tags (at core k).span ≡ true) →
     ((d : Doubt) → doubt ≡ Some d → IsDoubtful (record core { tags = tags }) d) →
-    IsLogged (record core { doubt = doubt; size = size; sizes = sizes; tags = tags; bytes = bytes; loose = loose; crashed = crashed })
+    IsLogged (record core {
+      doubt = doubt;
+      size = size;
+      sizes = sizes;
+      tags = tags;
+      bytes = bytes;
+      loose = loose;
+      crashed = crashed;
+    })
 logged_beside core doubt size sizes tags bytes loose crashed logged mapped doubtful = record {
   kinds = logged.kinds;
   spans = logged.spans;
@@ -111,10 +137,12 @@ logged_beside core doubt size sizes tags bytes loose crashed logged mapped doubt
 }
 
 -- the same, where tags and doubt stay
-pub logged_medium : (core : Core) (size : ℕ) (sizes bytes : List ℕ) (loose : List Stretch) → IsLogged core →
+pub logged_medium : (core : Core) (size : ℕ) (sizes bytes : List ℕ) (loose : List Stretch) →
+    IsLogged core →
     IsLogged (record core { size = size; sizes = sizes; bytes = bytes; loose = loose })
 logged_medium core size sizes bytes loose logged =
-    logged_beside core core.doubt size sizes core.tags bytes loose core.crashed logged logged.mapped logged.doubtful
+    logged_beside core core.doubt size sizes core.tags bytes loose core.crashed logged logged.mapped
+    logged.doubtful
 
 -- What a track that is put keeps of the one that stood there.
 pub record Replaces (core : Core) (place : ℕ) (t : Track) : Type 0 where
@@ -123,12 +151,15 @@ pub record Replaces (core : Core) (place : ℕ) (t : Track) : Type 0 where
   pub live : is_live t.state ≡ true → is_live (track core.tracks place).state ≡ true
   pub asks : is_unserved t.state ≡ true → is_unserved (track core.tracks place).state ≡ true
   pub busy : is_busy t ≡ true →
-      (is_busy (track core.tracks place) ≡ true) ⊎ ((is_live (track core.tracks place).state ≡ true) × IsClear core (place - 1))
+      (is_busy (track core.tracks place) ≡ true)
+      ⊎ ((is_live (track core.tracks place).state ≡ true) × IsClear core (place - 1))
   pub idle : (block : ℕ) → t.applied ≡ true → has_block t.state block ≡ false
   pub mark : is_off t.mark ≡ false → IsCovered core (place - 1)
-  pub falls : is_live (track core.tracks place).state ≡ true → (is_live t.state ≡ true) ⊎ IsAlone core (place - 1)
+  pub falls : is_live (track core.tracks place).state ≡ true →
+      (is_live t.state ≡ true) ⊎ IsAlone core (place - 1)
 
-follows_put : (core : Core) (place : ℕ) (t : Track) → IsLogged core → Replaces core place t → TracksFollow core (set core.tracks (place - 1) t)
+follows_put : (core : Core) (place : ℕ) (t : Track) → IsLogged core → Replaces core place t →
+    TracksFollow core (set core.tracks (place - 1) t)
 follows_put core place t logged put = record {
   span = λ k. elim (seen core.tracks place t k) [
     | inl here ↦ let was = old k here.0 in rw (here.1, put.span, was) refl
@@ -173,5 +204,7 @@ follows_put core place t logged put = record {
     old : (k : ℕ) → k ≡ place - 1 → track core.tracks place ≡ get_or core.tracks k blank
     old k same = track_is core.tracks place k put.some same
 
-pub logged_put : (core : Core) (place : ℕ) (t : Track) → IsLogged core → Replaces core place t → IsLogged (with_track core place t)
-logged_put core place t logged put = logged_follows core (set core.tracks (place - 1) t) logged (follows_put core place t logged put)
+pub logged_put : (core : Core) (place : ℕ) (t : Track) → IsLogged core → Replaces core place t →
+    IsLogged (with_track core place t)
+logged_put core place t logged put =
+    logged_follows core (set core.tracks (place - 1) t) logged (follows_put core place t logged put)

@@ -17,13 +17,17 @@ use Rattle.cfs_core.proofs.StoredQuiet.{stored_dispatch, stored_doubt, stored_se
 use Rattle.cfs_core.proofs.StoredTags.{stored_tag, stored_trim}
 use Rattle.cfs_core.proofs.StoredWrites.{stored_flush, stored_write}
 
-pub stored-after : (core : Core) (event : Event) → IsKept core → case core event ≡ true → IsStored (after core event)
-stored-after core (events.Tag block kept) k h = stored_tag core block (if kept then On else Unsure) k h
+pub stored-after : (core : Core) (event : Event) → IsKept core → case core event ≡ true →
+    IsStored (after core event)
+stored-after core (events.Tag block kept) k h =
+    stored_tag core block (if kept then On else Unsure) k h
 stored-after core (events.Admit entry grant kept) k h = stored_admit core entry grant kept k h
 stored-after core (events.AdmitRead entry) k h = stored_query core entry k h
 stored-after core (events.Serve place answer) k h = stored_serve core place answer k.stored_ h
 stored-after core (events.Mark place by true) k h = stored_mark core place by k h
-stored-after core (events.Mark place by false) k h = stored_unmarked core place k.stored_ (first_of_and (is_waiting (track core.tracks place).state) _ h)
+stored-after core (events.Mark place by false) k h =
+    stored_unmarked core place k.stored_
+    (first_of_and (is_waiting (track core.tracks place).state) _ h)
 stored-after core (events.Dispatch place) k h = stored_dispatch core place k.stored_ h
 stored-after core (events.BlockWrite place block left) k h = stored_write core place block left k h
 stored-after core (events.Flush place block ok) k h = stored_flush core place block ok k h

@@ -28,26 +28,53 @@ abbrev pub with_track : Core → ℕ → Track → Core
 with_track core place t = record core { tracks = set core.tracks (place - 1) t }
 
 abbrev pub with_state : Core → ℕ → State → Core
-with_state core place state = with_track core place (record (track core.tracks place) { state = state })
+with_state core place state =
+    with_track core place (record (track core.tracks place) { state = state })
 
 abbrev pub with_tag : Core → ℕ → Flag → Core
 with_tag core block flag = record core { tags = set core.tags block flag }
 
 -- what is kept of a request that is admitted: its gate is open
 abbrev pub change_track : ℕ → Span → Track
-change_track grant span = record { grant = grant; span = span; state = Waiting; applied = false; done = None; gate = On; mark = Off }
+change_track grant span =
+    record {
+      grant = grant;
+      span = span;
+      state = Waiting;
+      applied = false;
+      done = None;
+      gate = On;
+      mark = Off;
+    }
 
 abbrev pub query_track : Span → Track
-query_track span = record { grant = 0; span = span; state = Unserved; applied = false; done = None; gate = Off; mark = Off }
+query_track span =
+    record {
+      grant = 0;
+      span = span;
+      state = Unserved;
+      applied = false;
+      done = None;
+      gate = Off;
+      mark = Off;
+    }
 
 -- logged, with what is kept of it
 abbrev pub logged : Core → Entry → Track → Core
 logged core entry t = record core { log = core.log ++ entry ∷ []; tracks = core.tracks ++ t ∷ [] }
 
 abbrev pub admitted : Core → Entry → ℕ → Bool → Core
-admitted core entry grant true = logged core entry (change_track grant (span_now core entry.request))
+admitted core entry grant true =
+    logged core entry (change_track grant (span_now core entry.request))
 admitted core entry grant false =
-    record core { doubt = Some (record { entry = entry; grant = grant; span = span_now core entry.request; gate = Unsure }) }
+    record core {
+      doubt = Some (record {
+        entry = entry;
+        grant = grant;
+        span = span_now core entry.request;
+        gate = Unsure;
+      });
+    }
 
 -- a mark that was kept makes a no-op, whatever becomes of its gate
 abbrev pub marked : Track → Bool → Track
@@ -59,12 +86,17 @@ abbrev pub written : Core → ℕ → ℕ → List ℕ → Bool → Core
 written core place block bytes ok =
     record (with_state core place (state_written block ok (track core.tracks place).state)) {
       bytes = put core.bytes (start_in (track core.tracks place).span block) bytes;
-      loose = core.loose ++ record { from = start_in (track core.tracks place).span block; to = end_in (track core.tracks place).span block } ∷ [];
+      loose = core.loose
+          ++ record {
+            from = start_in (track core.tracks place).span block;
+            to = end_in (track core.tracks place).span block;
+          } ∷ [];
     }
 
 abbrev pub block_written : Core → ℕ → ℕ → Option (List ℕ) → Core
 block_written core place block None =
-    written core place block (piece_in (payload_at core.log place) (track core.tracks place).span block) true
+    written core place block (piece_in (payload_at core.log place)
+    (track core.tracks place).span block) true
 block_written core place block (Some left) = written core place block left false
 
 abbrev pub flushed : Core → ℕ → ℕ → Bool → Core
@@ -90,7 +122,8 @@ abbrev pub put_back : Track → Flag → Bool → Track
 put_back t gate applied = record t { state = Waiting; gate = gate; applied = applied }
 
 abbrev pub finished : Core → ℕ → Track → End → Core
-finished core place t ends.Retired = with_size (with_track core place (retired t)) sizes.Set (sized core.size t.span)
+finished core place t ends.Retired =
+    with_size (with_track core place (retired t)) sizes.Set (sized core.size t.span)
 finished core place t ends.More = with_track core place (more_to_come t)
 finished core place t (ends.Back size gate applied) =
     with_size (with_track core place (put_back t gate applied)) size (sized core.size t.span)
@@ -108,7 +141,8 @@ with_doubt core doubt = record core { doubt = doubt }
 
 abbrev pub sure_tracks : List Track → List Bool → List Bool → List Track
 sure_tracks tracks gates marks =
-    map (λ k. sure_track (get_or tracks k blank) (get_or gates k false) (get_or marks k false)) (range_with_len 0 (length tracks))
+    map (λ k. sure_track (get_or tracks k blank) (get_or gates k false) (get_or marks k false))
+    (range_with_len 0 (length tracks))
 
 -- the image is the medium's only one; the log and the request in doubt stay
 abbrev pub crashed_to : Core → Image → Core
@@ -145,8 +179,10 @@ after core (events.Tag block kept) = with_tag core block (if kept then On else U
 after core (events.Admit entry grant kept) = admitted core entry grant kept
 after core (events.AdmitRead entry) = logged core entry (query_track (span_now core entry.request))
 after core (events.Serve place answer) = with_state core place Closed
-after core (events.Mark place by kept) = with_track core place (marked (track core.tracks place) kept)
-after core (events.Dispatch place) = with_state core place (Out (next_job core.tags (track core.tracks place)))
+after core (events.Mark place by kept) =
+    with_track core place (marked (track core.tracks place) kept)
+after core (events.Dispatch place) =
+    with_state core place (Out (next_job core.tags (track core.tracks place)))
 after core (events.BlockWrite place block left) = block_written core place block left
 after core (events.Flush place block ok) = flushed core place block ok
 after core (events.Finish place end) = finished core place (track core.tracks place) end

@@ -42,7 +42,8 @@ listed grant place (t ∷ ts) = item place (own_letter grant t) ++ listed grant 
 
 abbrev pub listed_doubt : ℕ → Option Doubt → List (ℕ × Letter)
 listed_doubt grant None = []
-listed_doubt grant (Some doubt) = if doubt.grant == grant then (doubt.entry.place, doubtful) ∷ [] else []
+listed_doubt grant (Some doubt) =
+    if doubt.grant == grant then (doubt.entry.place, doubtful) ∷ [] else []
 
 -- ascending by place, and last the request in doubt, at the number in its gate
 abbrev pub listing : Core → ℕ → List (ℕ × Letter)
@@ -53,34 +54,27 @@ listing core grant = listed grant 1 core.tracks ++ listed_doubt grant core.doubt
 -- another letter at the place, or none
 abbrev pub relettered : ℕ → Option Letter → List (ℕ × Letter) → List (ℕ × Letter)
 relettered place letter [] = []
-relettered place letter (first ∷ items) = (if first.0 == place then item place letter else first ∷ []) ++ relettered place letter items
+relettered place letter (first ∷ items) =
+    (if first.0 == place then item place letter else first ∷ []) ++ relettered place letter items
 
 abbrev pub is_doubtful : Letter → Bool
-is_doubtful waits = false
-is_doubtful goes = false
-is_doubtful idles = false
 is_doubtful doubtful = true
+is_doubtful _ = false
 
 abbrev pub after_finish : End → Option Letter
 after_finish ends.Retired = None
-after_finish ends.More = Some waits
-after_finish (ends.Back size gate applied) = Some waits
+after_finish _ = Some waits
 
--- An admitted change comes last. It leaves when it is retired or skipped, when nothing is in doubt any
--- more, and when the inode is mounted.
+-- An admitted change comes last. It leaves when it is retired or skipped, when nothing is in doubt
+-- any more, and when the inode is mounted.
 abbrev pub relisted : ℕ → Event → List (ℕ × Letter) → List (ℕ × Letter)
-relisted grant (events.Tag block kept) items = items
 relisted grant (events.Admit entry own kept) items =
     if own == grant then items ++ (entry.place, if kept then waits else doubtful) ∷ [] else items
-relisted grant (events.AdmitRead entry) items = items
-relisted grant (events.Serve place answer) items = items
-relisted grant (events.Mark place by kept) items = if kept then relettered place (Some idles) items else items
+relisted grant (events.Mark place by kept) items =
+    if kept then relettered place (Some idles) items else items
 relisted grant (events.Dispatch place) items = relettered place (Some goes) items
-relisted grant (events.BlockWrite place block left) items = items
-relisted grant (events.Flush place block ok) items = items
 relisted grant (events.Finish place end) items = relettered place (after_finish end) items
 relisted grant (events.Skip place) items = relettered place None items
-relisted grant (events.Trim block kept) items = items
 relisted grant events.Settle items = filter (λ i. not (is_doubtful i.1)) items
-relisted grant (events.Crash image) items = items
 relisted grant events.Mount items = []
+relisted grant _ items = items

@@ -6,8 +6,8 @@ use Rattle.cfs_core.specs.declared.event.Event.TheVariants as events
 use Rattle.cfs_core.specs.declared.inode_core.Core.{Core}
 use Rattle.cfs_core.specs.May.{may_mark}
 
--- The places of the waiting entries that the entry of a place covers, with no unserved read between that
--- overlaps; ascending.
+-- The places of the waiting entries that the entry of a place covers, with no unserved read between
+-- that overlaps; ascending.
 abbrev pub marks_to_try : Core → ℕ → List ℕ
 marks_to_try core by = filter (λ place. may_mark core place by) (range_with_len 1 (by - 1))
 

@@ -6,7 +6,7 @@ use Rattle.cfs_file.specs.declared.request.Request.{Request}
 use Rattle.cfs_file.specs.declared.request.Request.TheVariants as requests
 use Rattle.cfs_file.specs.declared.span.Span.{Span}
 use Rattle.cfs_file.specs.Log.{file_of}
-use Rattle.cfs_core.specs.declared.block.TheConstants.{BLOCK}
+use Rattle.cfs_file.specs.declared.sizes.TheConstants.{BLOCK_LEN}
 use Rattle.cfs_core.specs.declared.flag.Flag.{Flag}
 use Rattle.cfs_core.specs.declared.flag.Flag.TheVariants.{Off, On, Unsure}
 use Rattle.cfs_core.specs.declared.track.Track.{Track}
@@ -32,17 +32,20 @@ rests_as Unsure loose stands byte = not loose && ((stands == byte) && (byte == 0
 
 abbrev pub rests : Core → ℕ → ℕ → Bool
 rests core position byte =
-    rests_as (get_or core.tags (position / BLOCK) Off) (is_loose core.loose position) (get_or core.bytes position 0) byte
+    rests_as (get_or core.tags (position / BLOCK_LEN) Off) (is_loose core.loose position)
+    (get_or core.bytes position 0) byte
 
 -- at each position of its span that lies in a mapped block, the entry's byte stands in every image
 abbrev pub stands : Core → List ℕ → Span → Bool
 stands core bytes span =
-    list_all (λ p. is_off (get_or core.tags (p / BLOCK) Off) || rests core p (byte_at bytes span p)) (positions span)
+    list_all (λ p. is_off (get_or core.tags (p / BLOCK_LEN) Off)
+    || rests core p (byte_at bytes span p)) (positions span)
 
 -- the stored byte that is read at a position: 0 past the stored size
 abbrev pub reads : Core → ℕ → ℕ
 reads core position =
-    if nat_lt position core.size && is_on (get_or core.tags (position / BLOCK) Off) then get_or core.bytes position 0 else 0
+    if nat_lt position core.size && is_on (get_or core.tags (position / BLOCK_LEN) Off)
+    then get_or core.bytes position 0 else 0
 
 -- ---- images
 
@@ -52,15 +55,19 @@ doubt_gate (Some doubt) = doubt.gate
 
 -- each value is one that its flag allows
 abbrev pub allow_bits : List Flag → List Bool → Bool
-allow_bits flags bits = list_all (λ k. can_be (get_or flags k Off) (get_or bits k false)) (range_with_len 0 (length flags))
+allow_bits flags bits =
+    list_all (λ k. can_be (get_or flags k Off) (get_or bits k false))
+    (range_with_len 0 (length flags))
 
 abbrev pub allow_gates : List Track → List Bool → Bool
 allow_gates tracks bits =
-    list_all (λ k. can_be (get_or tracks k blank).gate (get_or bits k false)) (range_with_len 0 (length tracks))
+    list_all (λ k. can_be (get_or tracks k blank).gate (get_or bits k false))
+    (range_with_len 0 (length tracks))
 
 abbrev pub allow_marks : List Track → List Bool → Bool
 allow_marks tracks bits =
-    list_all (λ k. can_be (get_or tracks k blank).mark (get_or bits k false)) (range_with_len 0 (length tracks))
+    list_all (λ k. can_be (get_or tracks k blank).mark (get_or bits k false))
+    (range_with_len 0 (length tracks))
 
 abbrev pub agree : List Flag → List Bool → Bool
 agree flags bits = (length bits == length flags) && allow_bits flags bits
@@ -74,10 +81,12 @@ marks_agree tracks bits = (length bits == length tracks) && allow_marks tracks b
 -- the bytes are those that stand, but where these are loose
 abbrev pub are_bytes : List Stretch → List ℕ → List ℕ → Bool
 are_bytes loose stands bytes =
-    list_all (λ p. is_loose loose p || (get_or bytes p 0 == get_or stands p 0)) (range_with_len 0 (length stands))
+    list_all (λ p. is_loose loose p || (get_or bytes p 0 == get_or stands p 0))
+    (range_with_len 0 (length stands))
 
 abbrev pub bytes_agree : Core → List ℕ → Bool
-bytes_agree core bytes = (length bytes == length core.bytes) && are_bytes core.loose core.bytes bytes
+bytes_agree core bytes =
+    (length bytes == length core.bytes) && are_bytes core.loose core.bytes bytes
 
 -- a value that the size word has in some image
 abbrev pub is_size : Core → ℕ → Bool
@@ -106,7 +115,8 @@ image_now core = record {
 
 -- the byte of the block that is tagged for the position, or 0
 abbrev pub stored_byte : Image → ℕ → ℕ
-stored_byte image position = if get_or image.tags (position / BLOCK) false then get_or image.bytes position 0 else 0
+stored_byte image position =
+    if get_or image.tags (position / BLOCK_LEN) false then get_or image.bytes position 0 else 0
 
 -- the stored file
 abbrev pub stored : Image → List ℕ
@@ -125,13 +135,11 @@ in_doubt None gate = []
 in_doubt (Some doubt) true = doubt.entry ∷ []
 in_doubt (Some doubt) false = []
 
--- what the slot holds of a request with that span: of an append, a write at the offset that it was given
+-- what the slot holds of a request with that span: of an append, a write at the offset that it was
+-- given
 abbrev pub placed : Span → Request → Request
-placed span (requests.Write offset bytes) = requests.Write offset bytes
 placed span (requests.Append bytes) = requests.Write (start_of span) bytes
-placed span (requests.Truncate n) = requests.Truncate n
-placed span (requests.Read offset count) = requests.Read offset count
-placed span requests.Sync = requests.Sync
+placed span request = request
 
 abbrev pub placed_entry : Span → Entry → Entry
 placed_entry span entry = record entry { request = placed span entry.request }
@@ -146,10 +154,11 @@ abbrev pub open_entries : List Track → Image → List Entry → List Entry
 open_entries tracks image log =
     map (λ e. placed_entry (track tracks e.place).span e) (filter (λ e. is_open image e.place) log)
 
--- The live entries of an image: those of the log in order of place, which is the number in their gates,
--- and then the request in doubt where its gate is open.
+-- The live entries of an image: those of the log in order of place, which is the number in their
+-- gates, and then the request in doubt where its gate is open.
 abbrev pub live_entries : Core → Image → List Entry
-live_entries core image = open_entries core.tracks image core.log ++ placed_doubt core.doubt image.doubt
+live_entries core image =
+    open_entries core.tracks image core.log ++ placed_doubt core.doubt image.doubt
 
 -- the recovered file: the stored file, taken through the live entries
 abbrev pub recovered : Core → Image → List ℕ

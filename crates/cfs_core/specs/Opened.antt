@@ -1,4 +1,5 @@
--- The core of an inode whose image is opened: its live entries are logged and wait, as a mount finds them.
+-- The core of an inode whose image is opened: its live entries are logged and wait, as a mount
+-- finds them.
 use Rattle.std.specs.Prelude.{◌≡◌, ℕ, ◌+◌, Bool, true, false, not, Option, Some, None, List, [], ◌∷◌, ◌++◌, map, filter}
 use Rattle.std.specs.List.{list_all}
 use Rattle.cfs_file.specs.declared.entry.Entry.{Entry}
@@ -10,6 +11,8 @@ use Rattle.cfs_core.specs.declared.image.Image.{Image}
 use Rattle.cfs_core.specs.declared.inode_core.Core.{Core}
 use Rattle.cfs_core.specs.Words.{flag_of, track}
 use Rattle.cfs_core.specs.Medium.{file, is_image, is_open, live_entries, recovered, stored}
+use Rattle.cfs_core.specs.May.{may}
+use Rattle.cfs_core.specs.Within.{within}
 use Rattle.cfs_core.specs.Good.{IsGood}
 use Rattle.cfs_core.specs.After.{change_track}
 use Rattle.cfs_core.specs.Run.{IsRun, after_all}
@@ -30,14 +33,16 @@ opened_doubt (Some doubt) false = []
 
 -- those of the log's open entries, as in `open_entries`
 abbrev pub open_tracks : List Track → Image → List Entry → List Track
-open_tracks tracks image log = map (λ e. opened_track (track tracks e.place)) (filter (λ e. is_open image e.place) log)
+open_tracks tracks image log =
+    map (λ e. opened_track (track tracks e.place)) (filter (λ e. is_open image e.place) log)
 
 -- the tracks of the live entries of an image, in their order
 abbrev pub live_tracks : Core → Image → List Track
-live_tracks core image = open_tracks core.tracks image core.log ++ opened_doubt core.doubt image.doubt
+live_tracks core image =
+    open_tracks core.tracks image core.log ++ opened_doubt core.doubt image.doubt
 
--- The image as a core: over the stored file its live entries, from place 1 on, each as its slot holds it;
--- nothing in doubt or unflushed, and each bit and the size known.
+-- The image as a core: over the stored file its live entries, from place 1 on, each as its slot
+-- holds it; nothing in doubt or unflushed, and each bit and the size known.
 abbrev pub opened : Core → Image → Core
 opened core image = record {
   base = stored image;
@@ -54,26 +59,23 @@ opened core image = record {
 
 -- a change that is asked for, admitted or in doubt
 abbrev pub is_admission : Event → Bool
-is_admission (events.Tag block kept) = false
 is_admission (events.Admit entry grant kept) = true
-is_admission (events.AdmitRead entry) = false
-is_admission (events.Serve place answer) = false
-is_admission (events.Mark place by kept) = false
-is_admission (events.Dispatch place) = false
-is_admission (events.BlockWrite place block left) = false
-is_admission (events.Flush place block ok) = false
-is_admission (events.Finish place end) = false
-is_admission (events.Skip place) = false
-is_admission (events.Trim block kept) = false
-is_admission events.Settle = false
-is_admission (events.Crash image) = false
-is_admission events.Mount = false
+is_admission _ = false
 
 pub record OpensWell (core : Core) (image : Image) : Type 0 where
   -- its file is the one that the image recovers
   pub file_is : file (opened core image) ≡ recovered core image
   -- every run of it is good
-  pub good : (steps : List Event) → IsRun (opened core image) steps → IsGood (after_all (opened core image) steps)
+  pub good : (steps : List Event) → IsRun (opened core image) steps →
+      IsGood (after_all (opened core image) steps)
+  -- and the moments within an event may come where the event may
+  pub moments : (steps : List Event) (event : Event) → IsRun (opened core image) steps →
+      may (after_all (opened core image) steps) event ≡ true →
+      list_all (may (after_all (opened core image) steps))
+      (within (after_all (opened core image) steps) event)
+      ≡ true
   -- until a change is admitted, every image that is left on the way recovers the same file again
-  pub again : (steps : List Event) (left : Image) → IsRun (opened core image) steps → list_all (λ e. not (is_admission e)) steps ≡ true →
-      is_image (after_all (opened core image) steps) left ≡ true → recovered (after_all (opened core image) steps) left ≡ recovered core image
+  pub again : (steps : List Event) (left : Image) → IsRun (opened core image) steps →
+      list_all (λ e. not (is_admission e)) steps ≡ true →
+      is_image (after_all (opened core image) steps) left ≡ true →
+      recovered (after_all (opened core image) steps) left ≡ recovered core image

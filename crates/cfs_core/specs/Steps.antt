@@ -1,6 +1,6 @@
 -- The steps of a job, and what two of them have to do with each other.
 use Rattle.std.specs.Prelude.{◌≡◌, ℕ, ◌/◌, Bool, true, Option, List, get_or}
-use Rattle.cfs_core.specs.declared.block.TheConstants.{BLOCK}
+use Rattle.cfs_file.specs.declared.sizes.TheConstants.{BLOCK_LEN}
 use Rattle.cfs_core.specs.declared.event.Event.{Event}
 use Rattle.cfs_core.specs.declared.event.Event.TheVariants as events
 use Rattle.cfs_core.specs.declared.inode_core.Core.{Core}
@@ -23,8 +23,8 @@ step_of place block (flushes ok) = events.Flush place block ok
 -- from the one core to the other only the track of the place and the block changed
 pub record StaysInside (place block : ℕ) (core new : Core) : Type 0 where
   pub tracks : (other : ℕ) → (other ≡ place → ⊥) → track new.tracks other ≡ track core.tracks other
-  pub bytes : (p : ℕ) → (p / BLOCK ≡ block → ⊥) → get_or new.bytes p 0 ≡ get_or core.bytes p 0
-  pub loose : (p : ℕ) → (p / BLOCK ≡ block → ⊥) → is_loose new.loose p ≡ is_loose core.loose p
+  pub bytes : (p : ℕ) → (p / BLOCK_LEN ≡ block → ⊥) → get_or new.bytes p 0 ≡ get_or core.bytes p 0
+  pub loose : (p : ℕ) → (p / BLOCK_LEN ≡ block → ⊥) → is_loose new.loose p ≡ is_loose core.loose p
   pub rest : new ≡ record core { tracks = new.tracks; bytes = new.bytes; loose = new.loose }
 
 -- the same core, but that its stretches may stand otherwise: the same positions are loose

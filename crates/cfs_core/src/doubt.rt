@@ -3,7 +3,8 @@
 use crate::Flag;
 use cfs_file::{Entry, Span};
 
-/// A request whose admission failed at its gate: it is not logged, and a crash may find its gate open.
+/// A request whose admission failed at its gate: it is not logged, and a crash may find its gate
+/// open.
 #[derive(Drop)]
 pub struct Doubt {
     /// The request, with the place that it would have had, which is the number in its gate.

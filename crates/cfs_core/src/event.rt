@@ -21,8 +21,8 @@ pub enum End {
     Retired,
     /// Its blocks are done, and more are to come.
     More,
-    /// It was put back or its finish failed: what became of the size word and of the gate, and whether
-    /// the entry is applied.
+    /// It was put back or its finish failed: what became of the size word and of the gate, and
+    /// whether the entry is applied.
     Back {
         size: SizeEnd,
         gate: Flag,

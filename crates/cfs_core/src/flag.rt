@@ -16,26 +16,26 @@ pub enum Flag {
 
 impl Flag {
     /// The flag of a word that has that value in every image.
-    pub(crate) fn sure(bit: bool) -> Flag
+    pub fn sure(bit: bool) -> Flag
         ensures { result ≡ flag_of bit }
     {
         if bit { Flag::On } else { Flag::Off }
     }
 
-    pub(crate) fn is_on(self) -> bool
+    pub fn is_on(self) -> bool
         ensures { result ≡ is_on self }
     {
         matches!(self, Flag::On)
     }
 
-    pub(crate) fn is_off(self) -> bool
+    pub fn is_off(self) -> bool
         ensures { result ≡ is_off self }
     {
         matches!(self, Flag::Off)
     }
 
     /// An image may have that value.
-    pub(crate) fn can_be(self, bit: bool) -> bool
+    pub fn can_be(self, bit: bool) -> bool
         ensures { result ≡ can_be self bit }
     {
         match self {

@@ -3,12 +3,12 @@
 ghost use Rattle.std.specs.Prelude.{◌≡◌, IfOk};
 ghost use Rattle.cfs_core.specs.Fresh.{IsEmpty, IsFresh};
 
-use crate::{BLOCKS, Doubt, Flag, Items, Stretch, Track};
-use cfs_file::{Bytes, Entry, NoMemory};
+use crate::{Doubt, Flag, Items, Stretch, Track};
+use cfs_file::{Bytes, Entry, FILE_BLOCKS, NoMemory};
 use std::alloc::Global;
 
-/// One inode as the events see it: what was asked of it, how far that has come, and what is known of
-/// its part of the medium.
+/// One inode as the events see it: what was asked of it, how far that has come, and what is known
+/// of its part of the medium.
 #[derive(Drop)]
 pub struct Core {
     /// The file at the last mount.
@@ -40,7 +40,7 @@ impl Core {
         ensures fresh { IfOk result IsFresh }
     {
         let mut tags = Items::new(alloc);
-        for block in 0..BLOCKS {
+        for block in 0..FILE_BLOCKS {
             tags.push(Flag::Off)?;
         }
         Ok(Core {

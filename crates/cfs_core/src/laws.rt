@@ -2,8 +2,9 @@
 
 ghost use Rattle.cfs_core.specs.Laws.{ImagesOpenAsCores, JobStepsCommute, JobsAreApart, ListedUntilClosed, LiveAreOpen, MarkedAreCovered, MarksMayFollow, MomentsMayCome, OnlyLiveAreOpen, RunsAreGood, StepsStayInside};
 
-/// After each event of every run of a fresh core, whatever failed and wherever it crashed, the log is
-/// legal, a read that may be served gets its answer, and every image recovers the file after the log.
+/// After each event of every run of a fresh core, whatever failed and wherever it crashed, the log
+/// is legal, a read that may be served gets its answer, and every image recovers the file after the
+/// log.
 pub fn runs_are_good()
     ensures { RunsAreGood }
 {}
@@ -33,19 +34,20 @@ pub fn live_are_open()
     ensures { LiveAreOpen }
 {}
 
-/// An image that a crash left is itself a core, whose log is the live entries: however they are brought
-/// home, and wherever that is cut off, what is recovered is the same file.
+/// An image that a crash left is itself a core, whose log is the live entries: however they are
+/// brought home, and wherever that is cut off, what is recovered is the same file.
 pub fn images_open_as_cores()
     ensures { ImagesOpenAsCores }
 {}
 
-/// After a change is admitted, each mark that it may set may still come once those before it were tried.
+/// After a change is admitted, each mark that it may set may still come once those before it were
+/// tried.
 pub fn marks_may_follow()
     ensures { MarksMayFollow }
 {}
 
-/// A change stands in the queue of its grant from its admission until it is closed, and there is written
-/// what became of it; a mount begins with empty queues.
+/// A change stands in the queue of its grant from its admission until it is closed, and there is
+/// written what became of it; a mount begins with empty queues.
 pub fn listed_until_closed()
     ensures { ListedUntilClosed }
 {}
@@ -55,8 +57,8 @@ pub fn steps_stay_inside()
     ensures { StepsStayInside }
 {}
 
-/// Two jobs whose steps may both come do not see each other: in either order they make the same core, but
-/// that its stretches may stand in another order.
+/// Two jobs whose steps may both come do not see each other: in either order they make the same
+/// core, but that its stretches may stand in another order.
 pub fn job_steps_commute()
     ensures { JobStepsCommute }
 {}

@@ -40,38 +40,38 @@ pub enum State {
 
 impl State {
     /// Waiting or out.
-    pub(crate) fn is_live(self) -> bool
+    pub fn is_live(self) -> bool
         ensures { result ≡ is_live self }
     {
         matches!(self, State::Waiting | State::Out(_))
     }
 
-    pub(crate) fn is_waiting(self) -> bool
+    pub fn is_waiting(self) -> bool
         ensures { result ≡ is_waiting self }
     {
         matches!(self, State::Waiting)
     }
 
-    pub(crate) fn is_out(self) -> bool
+    pub fn is_out(self) -> bool
         ensures { result ≡ is_out self }
     {
         matches!(self, State::Out(_))
     }
 
-    pub(crate) fn is_noop(self) -> bool
+    pub fn is_noop(self) -> bool
         ensures { result ≡ is_noop self }
     {
         matches!(self, State::Noop)
     }
 
-    pub(crate) fn is_unserved(self) -> bool
+    pub fn is_unserved(self) -> bool
         ensures { result ≡ is_unserved self }
     {
         matches!(self, State::Unserved)
     }
 
     /// It is out, and its job has the block.
-    pub(crate) fn has_block(self, block: u64) -> bool
+    pub fn has_block(self, block: u64) -> bool
         ensures { result ≡ has_block self block }
     {
         match self {
@@ -81,7 +81,7 @@ impl State {
     }
 
     /// It is out, and each block of its job was written and then flushed.
-    pub(crate) fn is_through(self) -> bool
+    pub fn is_through(self) -> bool
         ensures { result ≡ is_through self }
     {
         match self {

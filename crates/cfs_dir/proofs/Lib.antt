@@ -10,3 +10,5 @@ pub mod Reading
 pub mod Shrunk
 pub mod Slots
 pub mod Walked
+pub mod Told
+pub mod Tables

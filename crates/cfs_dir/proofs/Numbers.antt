@@ -1,7 +1,8 @@
 -- The nodes by number after one is put at its record or taken out.
 use Rattle.std.proofs.Common.{◌≡◌, ◌≢◌, ℕ, zero, suc, ◌+◌, ◌<◌, List, [], ◌∷◌, length, map, get_or, ◌||◌, cond, inl, inr, refl, sym, ◌∙◌, ap, subst, arith}
 use Rattle.std.proofs.Math.ListN.{set, length-set}
-use Rattle.std.specs.Prelude.{Option, Some, None, IsSomeAnd, replicate, nat_eq}
+use Rattle.std.specs.Prelude.{Option, Some, None, IsSomeAnd, replicate, nat_eq, slice_get}
+use Rattle.std.specs.Option.{option_and_then}
 use Rattle.std.specs.HashMap.{get}
 use Rattle.std.specs.Map.{lookup}
 use Rattle.std.specs.List.{list_any}
@@ -9,7 +10,7 @@ use Rattle.std.proofs.lemmas.Bool.{cases_Bool, cond-true, cond-false, eq-eqb, ne
 use Rattle.std.proofs.lemmas.List.{map-set}
 use Rattle.cfs_dir.specs.declared.node.Node.{Node}
 use Rattle.cfs_dir.specs.Namespace.{node_of}
-use Rattle.cfs_dir.specs.Numbered.{NodeMap, slot_of, slots_of, FindsOwn, AreNumbered, IsNumbered}
+use Rattle.cfs_dir.specs.Numbered.{NodeMap, slot_of, slots_of, FindsOwn, AreNumbered, IsAbsent, IsNumbered}
 use Rattle.cfs_dir.specs.Table.{nodes_of, stands_in}
 use Rattle.cfs_dir.proofs.Grown.{some_of, IsSomeAnd_from}
 
@@ -17,11 +18,44 @@ use Rattle.cfs_dir.proofs.Grown.{some_of, IsSomeAnd_from}
 abbrev pub IsRenewed : NodeMap → NodeMap → ℕ → Option Node → Type 0
 IsRenewed old new key value = (number : ℕ) → get nat_eq new number ≡ cond (nat_eq key number) value (get nat_eq old number)
 
--- no record has this inode number
-abbrev pub IsAbsent : ℕ → List (Option ℕ) → Type 0
-IsAbsent key [] = Unit {0}
-IsAbsent key (None ∷ numbers) = IsAbsent key numbers
-IsAbsent key (Some number ∷ numbers) = (key ≢ number) × IsAbsent key numbers
+-- a record has another inode number, or none
+abbrev pub IsOther : ℕ → Option ℕ → Type 0
+IsOther key None = Unit {0}
+IsOther key (Some number) = key ≢ number
+
+-- what no record has after a change, and this one had not before, no record had
+pub IsAbsent-before : (i key : ℕ) (new d : Option ℕ) (numbers : List (Option ℕ)) → IsAbsent key (set numbers i new) → IsOther key (get_or numbers i d) → IsAbsent key numbers
+IsAbsent-before i key new d [] absent other = tt
+IsAbsent-before zero key None d (None ∷ numbers) absent other = absent
+IsAbsent-before zero key None d (Some number ∷ numbers) absent other = (other, absent)
+IsAbsent-before zero key (Some n) d (None ∷ numbers) absent other = absent.1
+IsAbsent-before zero key (Some n) d (Some number ∷ numbers) absent other = (other, absent.1)
+IsAbsent-before (suc i) key new d (None ∷ numbers) absent other = IsAbsent-before i key new d numbers absent other
+IsAbsent-before (suc i) key new d (Some number ∷ numbers) absent other = (absent.0, IsAbsent-before i key new d numbers absent.1 other)
+
+-- a number that a record got is another one
+pub IsAbsent-put_at : (i key n : ℕ) (numbers : List (Option ℕ)) → i < length numbers → IsAbsent key (set numbers i (Some n)) → key ≢ n
+IsAbsent-put_at i key n [] lt absent = absurd (omega arith)
+IsAbsent-put_at zero key n (number ∷ numbers) lt absent = absent.0
+IsAbsent-put_at (suc i) key n (None ∷ numbers) lt absent = IsAbsent-put_at i key n numbers (omega arith) absent
+IsAbsent-put_at (suc i) key n (Some number ∷ numbers) lt absent = IsAbsent-put_at i key n numbers (omega arith) absent.1
+
+-- a record whose number finds no node has none
+pub IsOther-free : (by_number : NodeMap) (rec key : ℕ) (slot : Option ℕ) → FindsOwn by_number rec slot → slot_of by_number slot ≡ None → IsOther key slot
+IsOther-free by_number rec key None own free = tt
+IsOther-free by_number rec key (Some number) own free = absurd (subst (λ found. IsSomeAnd found (λ node. (node.ino ≡ number) × (node.rec ≡ rec))) free own)
+
+pub IsOther-unused : (by_number : NodeMap) (first i key : ℕ) (numbers : List (Option ℕ)) → AreNumbered by_number first numbers
+    → option_and_then (λ slot. slot) (slice_get (slots_of by_number numbers) i) ≡ None → IsOther key (get_or numbers i None)
+IsOther-unused by_number first i key [] h free = tt
+IsOther-unused by_number first zero key (number ∷ numbers) h free = IsOther-free by_number first key number h.0 free
+IsOther-unused by_number first (suc i) key (number ∷ numbers) h free = IsOther-unused by_number (suc first) i key numbers h.1 free
+
+pub IsOther-none : (key : ℕ) (slot : Option ℕ) → slot ≡ None → IsOther key slot
+IsOther-none key slot none = rw none tt
+
+pub IsOther-some : (key number : ℕ) (slot : Option ℕ) → slot ≡ Some number → key ≢ number → IsOther key slot
+IsOther-some key number slot is other = rw is other
 
 pub slots-empty : (slot : Option ℕ → Option Node) → slot None ≡ None → (n : ℕ) → map slot (replicate n None) ≡ replicate n None
 slots-empty slot none zero = refl
@@ -125,10 +159,18 @@ AreNumbered-kept old new first (Some number ∷ numbers) same h = (
 
 -- a map with the same entries serves as well
 pub IsNumbered-kept : (old new : NodeMap) (numbers : List (Option ℕ)) → new.entries ≡ old.entries → IsNumbered old numbers → IsNumbered new numbers
-IsNumbered-kept old new numbers same h = record { size = h.size; numbered = AreNumbered-kept old new 0 numbers same h.numbered }
+IsNumbered-kept old new numbers same h = record {
+  size = h.size;
+  numbered = AreNumbered-kept old new 0 numbers same h.numbered;
+  only = λ number absent. ap (λ entries. lookup (nat_eq number) entries) same ∙ h.only number absent;
+}
 
-pub IsNumbered-empty : (by_number : NodeMap) (numbers : List (Option ℕ)) → numbers ≡ replicate 256 None → IsNumbered by_number numbers
-IsNumbered-empty by_number numbers e = rw e (record { size = refl; numbered = AreNumbered-empty by_number 256 0 })
+pub IsNumbered-empty : (by_number : NodeMap) (numbers : List (Option ℕ)) → by_number.entries ≡ [] → numbers ≡ replicate 256 None → IsNumbered by_number numbers
+IsNumbered-empty by_number numbers empty e = rw e (record {
+  size = refl;
+  numbered = AreNumbered-empty by_number 256 0;
+  only = λ number absent. ap (λ entries. lookup (nat_eq number) entries) empty;
+})
 
 pub seen-empty : (slot : Option ℕ → Option Node) (numbers : List (Option ℕ)) → slot None ≡ None → numbers ≡ replicate 256 None
     → map slot numbers ≡ replicate 256 None
@@ -146,11 +188,15 @@ module _ (old new : NodeMap) (numbers : List (Option ℕ)) (slots : List (Option
       ∙ ap (λ slot. set (slots_of new numbers) node.rec slot) (get-own old new node.ino (Some node) renewed)
       ∙ ap (λ s. set s node.rec (Some node)) (slots_of-same old new node.ino (Some node) numbers renewed IsAbsent-put ∙ seen)
 
-  pub IsNumbered-put : IsNumbered new (set numbers node.rec (Some node.ino))
-  IsNumbered-put = record {
+  pub IsNumbered-put : node.rec < 256 → option_and_then (λ slot. slot) (slice_get slots node.rec) ≡ None → IsNumbered new (set numbers node.rec (Some node.ino))
+  IsNumbered-put short free = record {
     size = length-set numbers node.rec (Some node.ino) ∙ h.size;
     numbered = AreNumbered-set new 0 node.rec (Some node.ino) numbers (AreNumbered-same old new 0 node.ino (Some node) numbers renewed IsAbsent-put h.numbered)
         (IsSomeAnd_from (get nat_eq new node.ino) node (λ n. (n.ino ≡ node.ino) × (n.rec ≡ 0 + node.rec)) (get-own old new node.ino (Some node) renewed) (refl, omega arith));
+    only = λ number absent.
+        get-other old new node.ino (Some node) number renewed (λ same. IsAbsent-put_at node.rec number node.ino numbers (let size = h.size in omega arith) absent (sym same))
+        ∙ h.only number (IsAbsent-before node.rec number (Some node.ino) None numbers absent
+        (IsOther-unused old 0 node.rec number numbers h.numbered (ap (λ s. option_and_then (λ slot. slot) (slice_get s node.rec)) seen ∙ free)));
   }
 
 -- the number of a record finds a node of that record
@@ -168,10 +214,14 @@ module _ (old : NodeMap) (numbers : List (Option ℕ)) (slots : List (Option Nod
   pub seen-none : slots_of old (set numbers rec None) ≡ set slots rec None
   seen-none = map-set (slot_of old) numbers rec None ∙ ap (λ s. set s rec None) seen
 
-  pub IsNumbered-none : IsNumbered old (set numbers rec None)
-  IsNumbered-none = record {
+  numbered-none : AreNumbered old 0 (set numbers rec None)
+  numbered-none = AreNumbered-set old 0 rec None numbers h.numbered tt
+
+  pub IsNumbered-none : (d : Option ℕ) → get_or numbers rec d ≡ None → IsNumbered old (set numbers rec None)
+  IsNumbered-none d none = record {
     size = length-set numbers rec None ∙ h.size;
-    numbered = AreNumbered-set old 0 rec None numbers h.numbered tt;
+    numbered = numbered-none;
+    only = λ number absent. h.only number (IsAbsent-before rec number None d numbers absent (IsOther-none number (get_or numbers rec d) none));
   }
 
   -- and where it has one
@@ -187,8 +237,14 @@ module _ (old : NodeMap) (numbers : List (Option ℕ)) (slots : List (Option Nod
 
     pub IsNumbered-taken : IsNumbered new (set numbers rec None)
     IsNumbered-taken = record {
-      size = IsNumbered-none.size;
-      numbered = AreNumbered-same old new 0 key None (set numbers rec None) renewed IsAbsent-own IsNumbered-none.numbered;
+      size = length-set numbers rec None ∙ h.size;
+      numbered = AreNumbered-same old new 0 key None (set numbers rec None) renewed IsAbsent-own numbered-none;
+      only = λ number absent. elim (cases_Bool (nat_eq key number)) [
+        | inl t ↦ renewed number ∙ cond-true (nat_eq key number) None (get nat_eq old number) t
+        | inr f ↦ renewed number ∙ cond-false (nat_eq key number) None (get nat_eq old number) f
+            ∙ h.only number (IsAbsent-before rec number None d numbers absent
+            (IsOther-some number key (get_or numbers rec d) at (λ same. let hit = eq-eqb key number (sym same) in cc)))
+      ];
     }
 
 pub list_any-slots_of : (by_number : NodeMap) (parent : ℕ) (numbers : List (Option ℕ))

@@ -6,3 +6,6 @@ pub mod Path
 pub mod Step
 pub mod Table
 pub mod Tree
+pub mod Change
+pub mod Words
+pub mod Told

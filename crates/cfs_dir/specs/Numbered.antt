@@ -1,5 +1,5 @@
 -- How the nodes are kept: each by its inode number, beside the inode number of the node of each record.
-use Rattle.std.specs.Prelude.{◌≡◌, ℕ, suc, List, [], ◌∷◌, Option, None, Some, IsSomeAnd, length, map, nat_eq}
+use Rattle.std.specs.Prelude.{◌≡◌, ◌≢◌, ℕ, suc, List, [], ◌∷◌, Option, None, Some, IsSomeAnd, length, map, nat_eq}
 use Rattle.std.specs.HashMap.{get, HashMap}
 use Rattle.std.specs.declared.hash.FoldHasher.{FoldHasher}
 use Rattle.std.specs.declared.hash.BuildHasherDefault.{BuildHasherDefault}
@@ -27,7 +27,14 @@ abbrev pub AreNumbered : NodeMap → ℕ → List (Option ℕ) → Type 0
 AreNumbered by_number first [] = Unit {0}
 AreNumbered by_number first (number ∷ numbers) = FindsOwn by_number first number × AreNumbered by_number (suc first) numbers
 
--- the nodes of 256 records by their numbers
+-- no record has this inode number
+abbrev pub IsAbsent : ℕ → List (Option ℕ) → Type 0
+IsAbsent key [] = Unit {0}
+IsAbsent key (None ∷ numbers) = IsAbsent key numbers
+IsAbsent key (Some number ∷ numbers) = (key ≢ number) × IsAbsent key numbers
+
+-- the nodes of 256 records by their numbers, and no other node
 pub record IsNumbered (by_number : NodeMap) (numbers : List (Option ℕ)) : Type 0 where
   pub size : length numbers ≡ 256
   pub numbered : AreNumbered by_number 0 numbers
+  pub only : (number : ℕ) → IsAbsent number numbers → get nat_eq by_number number ≡ None

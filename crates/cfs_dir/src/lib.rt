@@ -9,8 +9,10 @@
 //! of the refusals are this project's own.
 #![tactic(auto)]
 
+mod change;
 mod child;
 mod kind;
+mod laws;
 mod name;
 mod name_byte;
 mod node;
@@ -21,8 +23,11 @@ mod posix;
 mod refusal;
 mod rules;
 mod tree;
+mod words;
 
+pub use change::{CHANGE_WORDS, Change};
 pub use kind::Kind;
+pub use laws::{changes_are_told, nodes_are_told, tables_are_told};
 pub use name::{LONGEST_NAME, Name};
 pub use node::Node;
 pub use path::{Component, LONGEST_COMPONENT, MOST_NAMES, Path, PathRefusal};
@@ -30,6 +35,7 @@ pub use posix::Posix;
 pub use refusal::TreeRefusal;
 pub use rules::DEEPEST;
 pub use tree::{INODE_END, RECORDS, Tree};
+pub use words::{NODE_WORDS, node_words};
 
 #[cfg(test)]
 mod tests;

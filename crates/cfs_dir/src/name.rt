@@ -1,5 +1,6 @@
 ghost use Rattle.std.specs.Prelude.{◌≡◌, ◌≤◌, ◌<◌, ◌↔◌, IsTrue, IsSome, IfSome, [], length};
 ghost use Rattle.cfs_dir.specs.Name.{AreNameBytes, IsName};
+ghost use Rattle.cfs_dir.specs.Padding.{padded};
 
 use crate::name_byte::are_name_bytes;
 use std::hash::{Hash, Hasher};
@@ -71,6 +72,13 @@ impl Name {
             bytes: all,
             len: bytes.len(),
         }
+    }
+
+    /// The bytes of the name, filled up with zero bytes.
+    pub(crate) fn padded(&self) -> [u8; LONGEST_NAME]
+        ensures { result ≡ padded self.now }
+    {
+        self.bytes
     }
 
     /// The bytes of the name.

@@ -2,7 +2,10 @@ ghost use Rattle.std.specs.Prelude.{◌≡◌, ◌<◌, None};
 ghost use Rattle.std.specs.Option.{ForSome};
 ghost use Rattle.cfs_dir.specs.Namespace.{node_at};
 
-use crate::{Kind, Name, Node, Path, Posix, Tree, TreeRefusal};
+use crate::{
+    Change, Kind, Name, Node, Path, Posix, Tree, TreeRefusal, changes_are_told, node_words,
+    nodes_are_told, tables_are_told,
+};
 use cfs_cred::Credential;
 use std::alloc::{AllocError, Global};
 use std::process::Abort;
@@ -285,6 +288,82 @@ fn names_of_nodes(rt: HostRuntime) -> Result<(), Fail> {
     }
     for text in NO_NAMES.lines() {
         assert!(rt; Name::parse(text.as_bytes()).is_none(), "{text}");
+    }
+    Ok(())
+}
+
+// The words of the names were worked by hand: `ab` is 0x6261, and nine `z` are one word and a byte.
+#[test]
+fn a_change_has_its_words(rt: HostRuntime) -> Result<(), Fail> {
+    let mut node = Node {
+        ino: 7,
+        parent: 3,
+        name: Name::parse(b"ab").ok_or("no name")?,
+        kind: Kind::File,
+        mode: 0o640,
+        uid: 10,
+        gid: 20,
+        rec: 5,
+    };
+    assert_eq!(rt;
+        node_words(&node),
+        [7, 3, 1, 416, 10, 20, 2, 0x6261, 0, 0, 0, 0]
+    );
+    node.name = Name::parse(b"zzzzzzzzz").ok_or("no name")?;
+    node.kind = Kind::Directory;
+    let full = 0x7a7a_7a7a_7a7a_7a7a;
+    assert_eq!(rt;
+        node_words(&node),
+        [7, 3, 2, 416, 10, 20, 9, full, 0x7a, 0, 0, 0]
+    );
+    let replaced = Some(255);
+    for (change, words) in [
+        (
+            Change::Create(node),
+            [1, 5, 7, 3, 2, 416, 10, 20, 9, full, 0x7a, 0, 0, 0, 0],
+        ),
+        (
+            Change::Remove { rec: 5, ino: 7 },
+            [2, 5, 7, 0, 0, 0, 0, 0, 0, 0, 0, 0, 0, 0, 0],
+        ),
+        (
+            Change::Move {
+                node,
+                replaced: None,
+            },
+            [3, 5, 7, 3, 2, 416, 10, 20, 9, full, 0x7a, 0, 0, 0, 0],
+        ),
+        (
+            Change::Move { node, replaced },
+            [3, 5, 7, 3, 2, 416, 10, 20, 9, full, 0x7a, 0, 0, 0, 256],
+        ),
+    ] {
+        assert_eq!(rt; change.words(), words);
+    }
+    nodes_are_told();
+    changes_are_told();
+    tables_are_told();
+    Ok(())
+}
+
+#[test]
+fn posix_names_are_printed(rt: HostRuntime) -> Result<(), Fail> {
+    for (error, name) in [
+        (Posix::PermissionDenied, "EACCES"),
+        (Posix::NotFound, "ENOENT"),
+        (Posix::AlreadyExists, "EEXIST"),
+        (Posix::NotADirectory, "ENOTDIR"),
+        (Posix::IsADirectory, "EISDIR"),
+        (Posix::DirectoryNotEmpty, "ENOTEMPTY"),
+        (Posix::InvalidArgument, "EINVAL"),
+        (Posix::NameTooLong, "ENAMETOOLONG"),
+        (Posix::TooManyOpenFiles, "EMFILE"),
+        (Posix::TooManyFiles, "ENFILE"),
+        (Posix::BadDescriptor, "EBADF"),
+        (Posix::FileTooLarge, "EFBIG"),
+    ] {
+        let text = format!(in rt.alloc(); "{error}")?;
+        assert_eq!(rt; text.as_str(), name);
     }
     Ok(())
 }

@@ -1,6 +1,6 @@
 -- What a file is, what a request does to it, and what it answers.
 use Rattle.std.specs.Prelude.{ℕ, ◌+◌, ◌-◌, ◌≤◌, List, ◌++◌, length, take, drop, replicate}
-use Rattle.cfs_file.specs.declared.file.TheConstants.{LONGEST_FILE}
+use Rattle.cfs_file.specs.declared.sizes.TheConstants.{LONGEST_FILE}
 use Rattle.cfs_file.specs.declared.request.Request.{Request}
 use Rattle.cfs_file.specs.declared.request.Request.TheVariants as requests
 use Rattle.cfs_file.specs.declared.answer.Answer.{Answer}

@@ -7,9 +7,6 @@ ghost use Rattle.cfs_file.specs.Log.{file_of};
 use crate::{Answer, Bytes, Entry, NoMemory, Request};
 use std::alloc::Global;
 
-/// The most bytes that a file may have (own).
-pub const LONGEST_FILE: u64 = 1_048_576;
-
 /// Takes `file` through `request`. Costs the bytes written, filled or cut.
 /// An `Err` leaves the file as it was.
 pub fn apply(file: &mut Bytes, request: &Request) -> Result<(), NoMemory>

@@ -11,15 +11,20 @@ mod entry;
 mod file;
 mod no_memory;
 mod request;
+mod sizes;
 mod span;
 mod word;
 
 pub use answer::Answer;
 pub use bytes::Bytes;
 pub use entry::Entry;
-pub use file::{LONGEST_FILE, answer_of, answer_on, apply, file_after};
+pub use file::{answer_of, answer_on, apply, file_after};
 pub use no_memory::NoMemory;
 pub use request::Request;
+pub use sizes::{
+    BLOCK_LEN, FILE_BLOCKS, FIRST_SLOT, KIND_UNIT, LONGEST_FILE, LONGEST_READ, LONGEST_WRITE,
+    QUEUE_SLOTS,
+};
 pub use span::{Span, covers, overlaps, span_of};
 pub use word::Word;
 

@@ -4,7 +4,7 @@ use crate::Bytes;
 
 /// A request to one file. Offsets, lengths and counts are bytes.
 ///
-/// A write or append that the file system admits has 1 to 4096 bytes and a read asks for at most
+/// A write or append that the file system admits has 1 to 65,536 bytes and a read asks for at most
 /// 4096; the definitions hold of every request.
 #[derive(Debug, Drop, Clone, PartialEq, Eq)]
 pub enum Request {

@@ -39,7 +39,8 @@ pub fn span_of(request: &Request, length: u64) -> Span
 
 /// Whether some position is in both spans. Takes no memory.
 pub fn overlaps(a: &Span, b: &Span) -> bool
-    ensures { IsTrue result ↔ Overlap a.now b.now }
+    ensures exact { result ≡ meets a.now b.now }
+    ensures positions { IsTrue result ↔ Overlap a.now b.now }
 {
     test_overlap(*a, *b)
 }
@@ -47,7 +48,8 @@ pub fn overlaps(a: &Span, b: &Span) -> bool
 /// Whether `later` has all positions of `earlier`. So a write never covers a truncate. Takes no
 /// memory.
 pub fn covers(later: &Span, earlier: &Span) -> bool
-    ensures { IsTrue result ↔ Covers later.now earlier.now }
+    ensures exact { result ≡ reaches_over later.now earlier.now }
+    ensures positions { IsTrue result ↔ Covers later.now earlier.now }
 {
     test_cover(*later, *earlier)
 }

@@ -1,6 +1,7 @@
 use crate::{
-    Answer, Bytes, Entry, NoMemory, Request, Span, Word, answer_of, covers, file_after, overlaps,
-    span_of,
+    Answer, BLOCK_LEN, Bytes, Entry, FILE_BLOCKS, FIRST_SLOT, KIND_UNIT, LONGEST_FILE,
+    LONGEST_READ, LONGEST_WRITE, NoMemory, QUEUE_SLOTS, Request, Span, Word, answer_of, covers,
+    file_after, overlaps, span_of,
 };
 use std::alloc::Global;
 use std::test::Fail;
@@ -137,4 +138,19 @@ fn spans_meet_and_cover_by_position(rt: HostRuntime) {
         assert_eq!(rt; overlaps(&a, &b), meet, "{a:?} and {b:?}");
         assert_eq!(rt; covers(&a, &b), a_covers, "{a:?} over {b:?}");
     }
+}
+
+#[test]
+fn the_sizes_are_these(rt: HostRuntime) {
+    for (size, expected) in [
+        (BLOCK_LEN, 4096),
+        (FILE_BLOCKS, 256),
+        (LONGEST_FILE, 1_048_576),
+        (LONGEST_WRITE, 65_536),
+        (LONGEST_READ, 4096),
+        (KIND_UNIT, 65_536),
+    ] {
+        assert_eq!(rt; size, expected);
+    }
+    assert_eq!(rt; (FIRST_SLOT, QUEUE_SLOTS), (323, 16));
 }

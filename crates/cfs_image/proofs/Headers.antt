@@ -7,6 +7,7 @@ use Rattle.byteorder.specs.Endian.{little_bytes}
 use Rattle.cfs_image.specs.declared.layout.TheConstants.{NAME, VERSION}
 use Rattle.cfs_image.specs.Layout.{image_len}
 use Rattle.cfs_image.specs.Image.{word_at, words_bytes}
+use Rattle.cfs_image.specs.declared.version.Version.TheVariants.{Present}
 use Rattle.cfs_image.specs.Checks.{Check, Damage, check, checks_of, damage_of, due_len, IsSound}
 use Rattle.cfs_image.proofs.WordBytes.{word_bytes}
 
@@ -30,7 +31,7 @@ pub record IsHeaded (bytes : List ℕ) : Type 0 where
 
 pub headed : (bytes : List ℕ) → IsSound bytes → IsHeaded bytes
 headed bytes sound =
-    let cs : List Check = checks_of bytes in
+    let cs : List Check = checks_of Present bytes in
     let room : (nat_le 32 (length bytes) ≡ true) × (damage_of (drop 1 cs) ≡ None) = passed (get_or cs 0 (check true 0 0 0)) (drop 1 cs) sound in
     let name : ((word_at bytes 0 == NAME) ≡ true) × (damage_of (drop 2 cs) ≡ None) = passed (get_or cs 1 (check true 0 0 0)) (drop 2 cs) room.1 in
     let version : ((word_at bytes 8 == VERSION) ≡ true) × (damage_of (drop 3 cs) ≡ None) = passed (get_or cs 2 (check true 0 0 0)) (drop 3 cs) name.1 in
@@ -38,7 +39,7 @@ headed bytes sound =
     let most_blocks : (nat_le (word_at bytes 16) 16384 ≡ true) × (damage_of (drop 5 cs) ≡ None) = passed (get_or cs 4 (check true 0 0 0)) (drop 5 cs) fewest_blocks.1 in
     let fewest_queues : (nat_le 1 (word_at bytes 24) ≡ true) × (damage_of (drop 6 cs) ≡ None) = passed (get_or cs 5 (check true 0 0 0)) (drop 6 cs) most_blocks.1 in
     let most_queues : (nat_le (word_at bytes 24) 64 ≡ true) × (damage_of (drop 7 cs) ≡ None) = passed (get_or cs 6 (check true 0 0 0)) (drop 7 cs) fewest_queues.1 in
-    let size : ((length bytes == due_len bytes) ≡ true) × (damage_of (drop 8 cs) ≡ None) = passed (get_or cs 7 (check true 0 0 0)) (drop 8 cs) most_queues.1 in
+    let size : ((length bytes == due_len Present bytes) ≡ true) × (damage_of (drop 8 cs) ≡ None) = passed (get_or cs 7 (check true 0 0 0)) (drop 8 cs) most_queues.1 in
     record {
       room = grind (arith, nat_tests, room.0);
       name = grind (arith, nat_tests, name.0);

@@ -10,6 +10,7 @@ use Rattle.cfs_block.specs.BlockImages.{Content}
 use Rattle.cfs_image.specs.declared.layout.TheConstants.{NAME, VERSION}
 use Rattle.cfs_image.specs.Layout.{block_at, image_len, queues_of, region_at, region_count, region_words}
 use Rattle.cfs_image.specs.Image.{IsWord, block_bytes, header_of, image_of, word_at, words_bytes}
+use Rattle.cfs_image.specs.declared.version.Version.TheVariants.{Present}
 use Rattle.cfs_image.specs.Checks.{Check, check, checks_of, damage_of, due_len, IsSound}
 use Rattle.cfs_image.specs.Laws.{EachStands}
 use Rattle.cfs_image.specs.Held.{AreHeld}
@@ -140,8 +141,8 @@ holds check rest is none = rw is none
 pub sound_of : (bytes : List ℕ) (blocks queues : ℕ) → word_at bytes 0 ≡ NAME → word_at bytes 8 ≡ VERSION → word_at bytes 16 ≡ blocks → word_at bytes 24 ≡ queues
     → length bytes ≡ image_len blocks queues → 16 ≤ blocks → blocks ≤ 16384 → 1 ≤ queues → queues ≤ 64 → IsSound bytes
 sound_of bytes blocks queues name version in_blocks in_queues size fewest most some many =
-    let cs : List Check = checks_of bytes in
-    let due : length bytes ≡ due_len bytes = omega arith in
+    let cs : List Check = checks_of Present bytes in
+    let due : length bytes ≡ due_len Present bytes = omega arith in
     let room : nat_le 32 (length bytes) ≡ true = grind (arith, nat_tests) in
     let named : (word_at bytes 0 == NAME) ≡ true = grind (arith, nat_tests) in
     let versioned : (word_at bytes 8 == VERSION) ≡ true = grind (arith, nat_tests) in
@@ -149,7 +150,7 @@ sound_of bytes blocks queues name version in_blocks in_queues size fewest most s
     let most_blocks : nat_le (word_at bytes 16) 16384 ≡ true = grind (arith, nat_tests) in
     let fewest_queues : nat_le 1 (word_at bytes 24) ≡ true = grind (arith, nat_tests) in
     let most_queues : nat_le (word_at bytes 24) 64 ≡ true = grind (arith, nat_tests) in
-    let whole : (length bytes == due_len bytes) ≡ true = grind (arith, nat_tests) in
+    let whole : (length bytes == due_len Present bytes) ≡ true = grind (arith, nat_tests) in
     holds (get_or cs 0 (check true 0 0 0)) (drop 1 cs) room (holds (get_or cs 1 (check true 0 0 0)) (drop 2 cs) named (holds (get_or cs 2 (check true 0 0 0)) (drop 3 cs) versioned
     (holds (get_or cs 3 (check true 0 0 0)) (drop 4 cs) fewest_blocks (holds (get_or cs 4 (check true 0 0 0)) (drop 5 cs) most_blocks
     (holds (get_or cs 5 (check true 0 0 0)) (drop 6 cs) fewest_queues (holds (get_or cs 6 (check true 0 0 0)) (drop 7 cs) most_queues

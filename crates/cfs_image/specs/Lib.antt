@@ -7,3 +7,4 @@ pub mod Laws
 pub mod Layout
 pub mod Reading
 pub mod Store
+pub mod Versions

@@ -1,19 +1,21 @@
 //! The checks of an image's length and header.
 ghost use Rattle.std.specs.Prelude.{◌≡◌, ◌+◌, ◌*◌, ◌≤◌, false, true, length, IfOk, IfErr, OnOk, Some};
-ghost use Rattle.cfs_image.specs.Checks.{IsSound, NamesDamage};
+ghost use Rattle.cfs_image.specs.Checks.{IsSoundIn, NamesFirst};
 ghost use Rattle.cfs_image.specs.Image.{word_at};
-ghost use Rattle.cfs_image.specs.Layout.{image_len};
 
 use crate::layout::{
-    FEWEST_BLOCKS, FEWEST_QUEUES, HEADER_LEN, MOST_BLOCKS, MOST_QUEUES, NAME, VERSION, image_len,
+    FEWEST_BLOCKS, FEWEST_QUEUES, HEADER_LEN, MOST_BLOCKS, MOST_QUEUES, NAME, image_len_in,
 };
 use crate::refusal::ImageRefusal;
+use crate::version::Version;
 use byteorder::{ByteOrder, LittleEndian};
 
 /// How many blocks and queues a store has.
-#[derive(Clone, Copy)]
-pub(crate) struct Size {
+#[derive(Clone, Copy, Debug, PartialEq, Eq)]
+pub struct StoreSize {
+    /// 16 to 16,384.
     pub blocks: u32,
+    /// 1 to 64.
     pub queues: u32,
 }
 
@@ -42,19 +44,21 @@ fn word_at(bytes: &[u8], offset: usize) -> u64
     LittleEndian::read_u64(&bytes[offset..])
 }
 
-/// Checks the length and the header of an image, and gives the size of its store.
-pub(crate) fn check(bytes: &[u8]) -> Result<Size, ImageRefusal>
-    ensures sound { OnOk result (IsSound bytes.now) }
+/// Checks the length and the header of an image of this version, and gives the size of its store.
+///
+/// `Damaged` names the first check that fails (own); there is no other refusal. Takes no memory.
+pub fn check_header(bytes: &[u8], version: Version) -> Result<StoreSize, ImageRefusal>
+    ensures sound { OnOk result (IsSoundIn version bytes.now) }
     ensures blocks { IfOk result (λ size. size.blocks ≡ word_at bytes.now 16) }
     ensures queues { IfOk result (λ size. size.queues ≡ word_at bytes.now 24) }
-    ensures named { IfErr result (NamesDamage bytes.now) }
+    ensures named { IfErr result (NamesFirst version bytes.now) }
 {
     let len = bytes.len() as u64;
     ensure(HEADER_LEN as u64 <= len, len, len, HEADER_LEN as u64)?;
     let name = word_at(bytes, 0);
     ensure(name == NAME, 0, name, NAME)?;
-    let version = word_at(bytes, 8);
-    ensure(version == VERSION, 8, version, VERSION)?;
+    let found = word_at(bytes, 8);
+    ensure(found == version.number(), 8, found, version.number())?;
     let blocks = word_at(bytes, 16);
     ensure(
         u64::from(FEWEST_BLOCKS) <= blocks,
@@ -81,11 +85,11 @@ pub(crate) fn check(bytes: &[u8]) -> Result<Size, ImageRefusal>
         queues,
         u64::from(MOST_QUEUES),
     )?;
-    let size = Size {
+    let size = StoreSize {
         blocks: blocks as u32,
         queues: queues as u32,
     };
-    let due = image_len(size.blocks, size.queues) as u64;
+    let due = image_len_in(version, size.blocks, size.queues) as u64;
     ensure(len == due, len.min(due), len, due)?;
     Ok(size)
 }

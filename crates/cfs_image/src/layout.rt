@@ -4,7 +4,7 @@
 //! |---|---|---|
 //! | selector | 0 | 1 |
 //! | table copies | 1, 2 | 3073 |
-//! | journal records | 3 to 66 | 15 |
+//! | journal records | 3 to 66 | 16 |
 //! | size words | 67 to 322 | 1 |
 //! | slots, 16 for each queue | 323 + 16 * queue + slot | 518 |
 //! | blocks | behind the slots | a tag and 4096 bytes |
@@ -13,12 +13,15 @@
 
 ghost use Rattle.std.specs.Prelude.{◌≡◌, ◌<◌, ◌≤◌};
 ghost use Rattle.cfs_image.specs.Layout.{block_at, image_len, range_of, region_at, region_count, region_words};
+ghost use Rattle.cfs_image.specs.Versions.{image_len_in};
+
+use crate::version::Version;
 
 /// The first word of an image: the bytes `CROSSFS1`, the first one lowest.
 pub const NAME: u64 = 0x3153_4653_534f_5243;
 
 /// The second word of an image: the version of its layout.
-pub const VERSION: u64 = 1;
+pub const VERSION: u64 = 2;
 
 /// The fewest blocks of a store.
 pub const FEWEST_BLOCKS: u32 = 16;
@@ -36,7 +39,7 @@ pub const MOST_QUEUES: u32 = 64;
 pub(crate) const HEADER_LEN: usize = 32;
 
 /// The number of the first slot's region.
-pub const FIRST_SLOT: u32 = 323;
+pub const FIRST_SLOT: u32 = cfs_file::FIRST_SLOT;
 
 /// How many bytes a block takes in an image.
 pub(crate) const BLOCK_ROOM: usize = 4104;
@@ -58,7 +61,7 @@ pub fn region_words(device: u32) -> usize
     match device {
         0 => 1,
         1..=2 => 3073,
-        3..=66 => 15,
+        3..=66 => 16,
         67..=322 => 1,
         _ => 518,
     }
@@ -73,9 +76,9 @@ pub fn region_at(device: u32) -> usize
     match device {
         0 => 32,
         1..=2 => 40 + 24_584 * (device - 1),
-        3..=66 => 49_208 + 120 * (device - 3),
-        67..=322 => 56_888 + 8 * (device - 67),
-        _ => 58_936 + 4144 * (device - 323),
+        3..=66 => 49_208 + 128 * (device - 3),
+        67..=322 => 57_400 + 8 * (device - 67),
+        _ => 59_448 + 4144 * (device - 323),
     }
 }
 
@@ -84,7 +87,7 @@ pub fn region_at(device: u32) -> usize
 pub fn block_at(queues: u32, block: u32) -> usize
     ensures { result ≡ block_at queues block }
 {
-    58_936 + 66_304 * queues as usize + 4104 * block as usize
+    59_448 + 66_304 * queues as usize + 4104 * block as usize
 }
 
 /// The bytes of the device with this number in the image of a store of so many queues: an offset and a length.
@@ -107,4 +110,11 @@ pub fn image_len(blocks: u32, queues: u32) -> usize
     ensures { result ≡ image_len blocks queues }
 {
     block_at(queues, blocks)
+}
+
+/// How many bytes the image of a store has in a version of the layout.
+pub(crate) fn image_len_in(version: Version, blocks: u32, queues: u32) -> usize
+    ensures { result ≡ image_len_in version blocks queues }
+{
+    51_256 + 512 * version.record_words() + 66_304 * queues as usize + 4104 * blocks as usize
 }

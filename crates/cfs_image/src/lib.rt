@@ -9,8 +9,10 @@ mod layout;
 mod medium;
 mod read;
 mod refusal;
+mod version;
 mod write;
 
+pub use checks::{StoreSize, check_header};
 pub use fresh::new_image;
 pub use laws::{images_are_sound, images_stand, images_tell};
 pub use layout::{
@@ -20,6 +22,7 @@ pub use layout::{
 pub use medium::Medium;
 pub use read::read_image;
 pub use refusal::ImageRefusal;
+pub use version::Version;
 pub use write::write_image;
 
 #[cfg(test)]

@@ -9,10 +9,11 @@ ghost use Rattle.cfs_image.specs.Laws.{IsToldBy};
 ghost use Rattle.cfs_image.specs.Layout.{block_at, region_at, region_count, region_words};
 ghost use Rattle.cfs_image.specs.Reading.{AreBlocksOf, AreRegionsOf};
 
-use crate::checks::check;
+use crate::checks::check_header;
 use crate::layout::{BLOCK_ROOM, block_at, region_at, region_count, region_words};
 use crate::medium::Medium;
 use crate::refusal::ImageRefusal;
+use crate::version::Version;
 use byteorder::{ByteOrder, LittleEndian};
 use cfs_block::MemBlock;
 use cfs_file::NoMemory;
@@ -99,7 +100,7 @@ pub fn read_image(alloc: Global, bytes: &[u8]) -> Result<Medium<MemRegion, MemBl
     ensures tells { IfOk result (λ medium. IsToldBy bytes.now (words_in medium.regions.items) (contents_in medium.blocks.items)) }
     ensures err { IfErr result (NamesDamage bytes.now) }
 {
-    let size = check(bytes)?;
+    let size = check_header(bytes, Version::Present)?;
     let regions = read_regions(alloc, region_count(size.queues), bytes)?;
     let blocks = read_blocks(alloc, size.queues, size.blocks, bytes)?;
     Ok(Medium { regions, blocks })

@@ -1,7 +1,8 @@
 use crate::crash::{crash_blocks, crash_regions};
 use crate::{
-    ImageRefusal, NAME, image_len, new_image, range_of, read_image, region_at, region_words,
-    write_image,
+    FEWEST_BLOCKS, FEWEST_QUEUES, FIRST_SLOT, ImageRefusal, MOST_BLOCKS, MOST_QUEUES, NAME,
+    StoreSize, VERSION, Version, check_header, image_len, new_image, range_of, read_image,
+    region_at, region_words, write_image,
 };
 use byteorder::{ByteOrder, LittleEndian};
 use cfs_block::{Block, MemBlock};
@@ -12,7 +13,7 @@ use std::test::Fail;
 /// The words of a new image of 16 blocks and one queue that are not zero: the header, the next inode number, and the root's record.
 const NEW_WORDS: [(usize, u64); 9] = [
     (0, NAME),
-    (8, 1),
+    (8, 2),
     (16, 16),
     (24, 1),
     (40, 2),
@@ -44,7 +45,7 @@ fn word_at(image: &Vec<u8>, offset: usize) -> Option<u64> {
 #[test]
 fn a_new_image_is_zero_but_for_the_root(rt: HostRuntime) -> Result<(), Fail> {
     let image = smallest(rt.alloc())?;
-    assert_eq!(rt; image.len(), 190_904);
+    assert_eq!(rt; image.len(), 191_416);
     assert_eq!(rt; image.get(..8), Some(b"CROSSFS1".as_slice()));
     let mut rest = image;
     for (offset, word) in NEW_WORDS {
@@ -61,13 +62,13 @@ fn devices_stand_in_order(rt: HostRuntime) {
         (0, 32, 1),
         (1, 40, 3073),
         (2, 24_624, 3073),
-        (3, 49_208, 15),
-        (66, 56_768, 15),
-        (67, 56_888, 1),
-        (322, 58_928, 1),
-        (323, 58_936, 518),
-        (338, 121_096, 518),
-        (1346, 4_298_248, 518),
+        (3, 49_208, 16),
+        (66, 57_272, 16),
+        (67, 57_400, 1),
+        (322, 59_440, 1),
+        (323, 59_448, 518),
+        (338, 121_608, 518),
+        (1346, 4_298_760, 518),
     ] {
         assert_eq!(rt;
             (region_at(device), region_words(device)),
@@ -77,15 +78,15 @@ fn devices_stand_in_order(rt: HostRuntime) {
     }
     for (device, range) in [
         (0, (32, 8)),
-        (322, (58_928, 8)),
-        (338, (121_096, 4144)),
-        (339, (125_240, 4104)),
-        (354, (186_800, 4104)),
+        (322, (59_440, 8)),
+        (338, (121_608, 4144)),
+        (339, (125_752, 4104)),
+        (354, (187_312, 4104)),
     ] {
         assert_eq!(rt; range_of(1, device), range, "device {device}");
     }
-    assert_eq!(rt; image_len(16, 1), 190_904);
-    assert_eq!(rt; image_len(16_384, 64), 71_542_328);
+    assert_eq!(rt; image_len(16, 1), 191_416);
+    assert_eq!(rt; image_len(16_384, 64), 71_542_840);
 }
 
 fn refusal(alloc: Global, image: &[u8]) -> Option<ImageRefusal> {
@@ -108,10 +109,10 @@ fn an_image_that_was_cut_is_refused(rt: HostRuntime) -> Result<(), Fail> {
         (0, 0, 32),
         (10, 10, 32),
         (31, 31, 32),
-        (32, 32, 190_904),
-        (1000, 1000, 190_904),
-        (190_903, 190_903, 190_904),
-        (190_905, 190_904, 190_904),
+        (32, 32, 191_416),
+        (1000, 1000, 191_416),
+        (191_415, 191_415, 191_416),
+        (191_417, 191_416, 191_416),
     ] {
         let cut = image.get(..len).unwrap_or(&[]);
         assert_eq!(rt;
@@ -120,7 +121,7 @@ fn an_image_that_was_cut_is_refused(rt: HostRuntime) -> Result<(), Fail> {
             "length {len}"
         );
     }
-    assert!(rt; refusal(rt.alloc(), image.get(..190_904).unwrap_or(&[])).is_none());
+    assert!(rt; refusal(rt.alloc(), image.get(..191_416).unwrap_or(&[])).is_none());
     Ok(())
 }
 
@@ -129,15 +130,16 @@ fn an_image_that_was_cut_is_refused(rt: HostRuntime) -> Result<(), Fail> {
 fn a_header_is_checked_at_its_bounds(rt: HostRuntime) -> Result<(), Fail> {
     for (at, word, offset, found, against) in [
         (0, NAME + 1, 0, NAME + 1, NAME),
-        (8, 0, 8, 0, 1),
-        (8, 2, 8, 2, 1),
+        (8, 0, 8, 0, 2),
+        (8, 1, 8, 1, 2),
+        (8, 3, 8, 3, 2),
         (16, 15, 16, 15, 16),
-        (16, 17, 190_904, 190_904, 195_008),
-        (16, 16_384, 190_904, 190_904, 67_365_176),
+        (16, 17, 191_416, 191_416, 195_520),
+        (16, 16_384, 191_416, 191_416, 67_365_688),
         (16, 16_385, 16, 16_385, 16_384),
         (24, 0, 24, 0, 1),
-        (24, 2, 190_904, 190_904, 257_208),
-        (24, 64, 190_904, 190_904, 4_368_056),
+        (24, 2, 191_416, 191_416, 257_720),
+        (24, 64, 191_416, 191_416, 4_368_568),
         (24, 65, 24, 65, 64),
         (24, u64::MAX, 24, u64::MAX, 64),
     ] {
@@ -153,10 +155,42 @@ fn a_header_is_checked_at_its_bounds(rt: HostRuntime) -> Result<(), Fail> {
 }
 
 #[test]
+fn the_bounds_are_these(rt: HostRuntime) {
+    assert_eq!(rt; (NAME, VERSION), (0x3153_4653_534f_5243, 2));
+    assert_eq!(rt; (FEWEST_BLOCKS, MOST_BLOCKS), (16, 16_384));
+    assert_eq!(rt; (FEWEST_QUEUES, MOST_QUEUES, FIRST_SLOT), (1, 64, 323));
+}
+
+// The header of version 1: the same words, a lower version, and 512 bytes less behind them.
+#[test]
+fn a_header_of_the_first_version_is_checked(rt: HostRuntime) -> Result<(), Fail> {
+    let mut image = smallest(rt.alloc())?;
+    put_word(&mut image, 8, 1);
+    let whole = image.as_slice();
+    let cut = whole.get(..190_904).unwrap_or(&[]);
+    let size = StoreSize {
+        blocks: 16,
+        queues: 1,
+    };
+    assert_eq!(rt; check_header(cut, Version::First).ok(), Some(size));
+    for (bytes, version, refused) in [
+        (whole, Version::First, damage(190_904, 191_416, 190_904)),
+        (cut, Version::Present, damage(8, 1, 2)),
+    ] {
+        assert_eq!(rt; check_header(bytes, version).err(), refused, "{version:?}");
+    }
+    assert_eq!(rt;
+        (Version::First.number(), Version::First.record_words()),
+        (1, 15)
+    );
+    Ok(())
+}
+
+#[test]
 fn a_refusal_names_what_it_found(rt: HostRuntime) -> Result<(), Fail> {
     let image = smallest(rt.alloc())?;
     for (len, text) in [
-        (1000, "offset 1000 found 1000 against 190904"),
+        (1000, "offset 1000 found 1000 against 191416"),
         (10, "offset 10 found 10 against 32"),
     ] {
         let Some(refusal) = refusal(rt.alloc(), image.get(..len).unwrap_or(&[])) else {

@@ -25,7 +25,7 @@ names = slice_cmp nat_cmp
 abbrev pub is_named : List ℕ → File → Bool
 is_named name file = bytes_eq file.0 name
 
-same_test : (a b : List ℕ) → eq_by_cmp names a b ≡ bytes_eq b a
+pub same_test : (a b : List ℕ) → eq_by_cmp names a b ≡ bytes_eq b a
 same_test a b = (eq_by_cmp_equiv nat_list_cmp_total).symm a b ∙ is_eq-slice_cmp b a
 
 same_name : (a b : List ℕ) → bytes_eq a b ≡ true → a ≡ b

@@ -1,2 +1,4 @@
+pub mod CutFolders
 pub mod FilesByName
+pub mod Folders
 pub mod Streams

@@ -3,7 +3,7 @@ use Rattle.std.specs.Prelude.{◌≡◌, ◌≢◌, ℕ, List, Some, None, ⊤, 
 use Rattle.std.specs.declared.option.Option.{Option}
 use Rattle.std.specs.Ordering.{nat_cmp}
 use Rattle.std.specs.Cmp.Lexicographic.{slice_cmp}
-use Rattle.std.specs.FinMap.{FinMap, get, insert, from_entries}
+use Rattle.std.specs.FinMap.{FinMap, get, insert, remove, from_entries}
 
 -- a finite map from names to bytes
 abbrev pub Files : Type 0
@@ -32,3 +32,8 @@ OthersKept (Some old) (Some new) name = (q : List ℕ) → q ≢ name → get ne
 -- the files of a list; of two with one name the first
 abbrev pub files_of : List (List ℕ × List ℕ) → Files
 files_of = from_entries
+
+-- the files with this one of a name, or without any
+abbrev pub with_or_without : Files → List ℕ → Option (List ℕ) → Files
+with_or_without files name None = remove files name
+with_or_without files name (Some bytes) = insert files name bytes

@@ -1,7 +1,7 @@
 //! Which calls of an object in memory are to fail.
 
 ghost use Rattle.std.specs.Prelude.{◌≡◌, ◌↔◌, ◌^◌, ◌<◌, IsTrue, Contains};
-ghost use Rattle.cfs_io.specs.Causes.{next_count};
+ghost use Rattle.cfs_io.specs.Counts.{next_count};
 
 /// The numbers of the calls that are to fail. Calls count from 1; the count stays at the end of
 /// `u64`.

@@ -4,7 +4,8 @@ ghost use Rattle.std.specs.Prelude.{◌≡◌, ◌≤◌, ◌↔◌, Some, IfOk,
 ghost use Rattle.std.specs.List.{position};
 ghost use Rattle.std.specs.Str.{bytes_eq};
 ghost use Rattle.std.specs.FinMap.{insert};
-ghost use Rattle.cfs_io.specs.Causes.{HasCause, Rose, next_count};
+ghost use Rattle.cfs_pmem.specs.Faults.{HasCause, Rose};
+ghost use Rattle.cfs_io.specs.Counts.{next_count};
 ghost use Rattle.cfs_io.specs.Files.{Finds, Misses, Saved, OthersKept, files_of};
 
 use crate::call_plan::CallPlan;
@@ -130,7 +131,7 @@ impl Shelf for MemShelf {
 }
 
 /// Where the first file of this name stands.
-fn index_of(files: &[(Word, Bytes)], name: &Word) -> Option<usize>
+pub(crate) fn index_of(files: &[(Word, Bytes)], name: &Word) -> Option<usize>
     ensures { result ≡ position (λ file. bytes_eq file.0 name.now) files.now }
 {
     files.iter().position(|file| file.0 == *name)

@@ -2,7 +2,8 @@
 
 ghost use Rattle.std.specs.Prelude.{◌≡◌, ◌-◌, ◌^◌, ◌<◌, ◌↔◌, [], Some, length, min, IsErr, IfOk, OnErr, Contains};
 ghost use Rattle.std.specs.Io.{WritesAtMost};
-ghost use Rattle.cfs_io.specs.Causes.{HasCause, next_count};
+ghost use Rattle.cfs_pmem.specs.Faults.{HasCause};
+ghost use Rattle.cfs_io.specs.Counts.{next_count};
 ghost use Rattle.cfs_io.specs.Streams.{TakesSome, WritesPiece};
 
 use crate::call_plan::CallPlan;

@@ -3,7 +3,8 @@
 ghost use Rattle.std.specs.Prelude.{◌≡◌, ◌-◌, ◌^◌, ◌<◌, ◌≤◌, ◌↔◌, ◌++◌, Some, length, take, drop, min, IsErr, IfOk, OnErr, Contains};
 ghost use Rattle.std.specs.Io.{ReadsAtMost};
 ghost use Rattle.std.specs.Io.KnownBytes.{ReadConsumes};
-ghost use Rattle.cfs_io.specs.Causes.{HasCause, next_count};
+ghost use Rattle.cfs_pmem.specs.Faults.{HasCause};
+ghost use Rattle.cfs_io.specs.Counts.{next_count};
 
 use crate::call_plan::CallPlan;
 use crate::{IoFault, Source};

@@ -2,7 +2,7 @@
 
 ghost use Rattle.std.specs.Prelude.{◌≡◌, ◌+◌, ◌≤◌, length, IfOk, OnOk, OnErr, IsErrOf};
 ghost use Rattle.std.specs.Io.KnownBytes.{Consumes, IsAtEnd};
-ghost use Rattle.cfs_io.specs.Causes.{Rose};
+ghost use Rattle.cfs_pmem.specs.Faults.{Rose};
 ghost use Rattle.cfs_io.specs.Streams.{MoreCame, AtMostCame, SomeCame};
 
 use crate::{ReadRefusal, Source};
@@ -36,6 +36,8 @@ pub fn read_script<S: Source>(alloc: Global, source: &mut S) -> Result<Bytes, Re
     ensures later { S.faults source.old ≤ S.faults source.new }
     ensures kept { OnOk result (S.faults source.new ≡ S.faults source.old) }
     ensures kept_long { IsErrOf result ReadRefusal.TooLong →
+        S.faults source.new ≡ S.faults source.old }
+    ensures kept_want { IsErrOf result ReadRefusal.NoMemory →
         S.faults source.new ≡ S.faults source.old }
 
     // How many reads it takes.

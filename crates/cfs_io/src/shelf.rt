@@ -2,7 +2,7 @@
 
 ghost use Rattle.std.specs.Prelude.{◌≡◌, ℕ, ◌≤◌, IfOk, OnOk, OnErr, IsErrOf};
 ghost use Rattle.std.specs.declared.option.Option.{Option};
-ghost use Rattle.cfs_io.specs.Causes.{HasCause, Rose};
+ghost use Rattle.cfs_pmem.specs.Faults.{HasCause, Rose};
 ghost use Rattle.cfs_io.specs.Files.{Files, Finds, Misses, Saved, OthersKept};
 
 use crate::{IoFault, LoadRefusal};

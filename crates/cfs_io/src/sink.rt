@@ -4,7 +4,7 @@ ghost use Rattle.std.specs.Prelude.{ℕ, List, OnOk, OnErr};
 ghost use Rattle.std.specs.declared.option.Option.{Option};
 ghost use Rattle.std.specs.Io.{WritesAtMost};
 ghost use Rattle.std.specs.Io.KnownBytes.{Appends};
-ghost use Rattle.cfs_io.specs.Causes.{HasCause};
+ghost use Rattle.cfs_pmem.specs.Faults.{HasCause};
 ghost use Rattle.cfs_io.specs.Streams.{TakesSome, WritesPiece, AppendsFront};
 
 use crate::IoFault;

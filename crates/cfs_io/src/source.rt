@@ -4,7 +4,8 @@ ghost use Rattle.std.specs.Prelude.{◌≡◌, ℕ, List};
 ghost use Rattle.std.specs.declared.option.Option.{Option};
 ghost use Rattle.std.specs.Io.{ReadsAtMost};
 ghost use Rattle.std.specs.Io.KnownBytes.{ReadConsumes};
-ghost use Rattle.cfs_io.specs.Causes.{HasCause, next_count};
+ghost use Rattle.cfs_pmem.specs.Faults.{HasCause};
+ghost use Rattle.cfs_io.specs.Counts.{next_count};
 
 use crate::IoFault;
 

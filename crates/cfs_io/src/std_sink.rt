@@ -2,7 +2,7 @@
 
 ghost use Rattle.std.specs.Prelude.{◌≡◌};
 ghost use Rattle.std.specs.Io.KnownBytes.{Keeps};
-ghost use Rattle.cfs_io.specs.Causes.{HasCause};
+ghost use Rattle.cfs_pmem.specs.Faults.{HasCause};
 
 use crate::{IoFault, Sink};
 use std::io::Write;

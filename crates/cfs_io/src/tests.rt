@@ -1,8 +1,9 @@
 //! What no clause says: that the calls succeed, and that the definitions mean what they should.
 
 use crate::{
-    FileShelf, IoFault, LONGEST_SCRIPT, LoadRefusal, MemShelf, MemSink, MemSource, ReadRefusal,
-    Shelf, Sink, StdSink, StdSource, read_script, write_all,
+    FileShelf, Folder, IoFault, LARGEST_FILE, LONGEST_SCRIPT, LoadRefusal, MemFolder, MemShelf,
+    MemSink, MemSource, ReadRefusal, Shelf, Sink, StdSink, StdSource, SystemFolder, read_script,
+    write_all,
 };
 use cfs_file::{Bytes, Word};
 use std::alloc::Global;
@@ -223,7 +224,7 @@ fn new_folder(rt: &HostRuntime) -> io::Result<String> {
 fn keeps_files_of_the_system_by_their_paths(rt: HostRuntime) -> Result<(), Fail> {
     let alloc = rt.alloc();
     let folder = new_folder(&rt)?;
-    let mut shelf = FileShelf::new(&rt, alloc);
+    let mut shelf = FileShelf::new(SystemFolder::new(&rt, alloc), alloc);
     let calls: [(&str, Option<&str>, Result<&str, LoadRefusal>); 11] = [
         ("a", None, Err(LoadRefusal::Absent)),
         ("a", Some("one"), Ok("")),
@@ -249,17 +250,103 @@ fn keeps_files_of_the_system_by_their_paths(rt: HostRuntime) -> Result<(), Fail>
     Ok(())
 }
 
+/// A folder in memory with a file `b`, and with a file `a` or none.
+fn folder_of(alloc: Global, has_file: bool, failing: &[u64]) -> Result<MemFolder, Fail> {
+    let mut files = Vec::new(alloc);
+    let other = Word::from_slice(alloc, b"b")?;
+    files.push((other, Bytes::from_slice(alloc, b"other")?))?;
+    if has_file {
+        let name = Word::from_slice(alloc, b"a")?;
+        files.push((name, Bytes::from_slice(alloc, b"old")?))?;
+    }
+    Ok(MemFolder::new(alloc, &files, Vec::from_slice(alloc, failing)?)?)
+}
+
+/// Whether a shelf over the folder has this text under `a`, where `old` is what was there before, if
+/// there was a file, and still has the file `b`.
+fn holds(alloc: Global, folder: MemFolder, text: &str, had_file: bool) -> bool {
+    let mut shelf = FileShelf::new(folder, alloc);
+    let want = if text == "old" && !had_file {
+        Err(LoadRefusal::Absent)
+    } else {
+        Ok(text)
+    };
+    is_answer(&answer(alloc, &mut shelf, "a", None), want)
+        && is_answer(&answer(alloc, &mut shelf, "b", None), Ok("other"))
+}
+
+#[test]
+fn a_save_that_stops_at_a_step_leaves_the_old_file_or_the_new_one(
+    rt: HostRuntime,
+) -> Result<(), Fail> {
+    let alloc = rt.alloc();
+    // The step that fails, and then what stands, and what a cut leaves: where the names are as they
+    // were made sure, and where they are as they stand.
+    let rows: [(u64, bool, &str, &str, &str); 7] = [
+        (1, false, "old", "old", "old"),
+        (2, false, "old", "old", "old"),
+        (3, false, "old", "old", "old"),
+        (4, false, "old", "old", "old"),
+        (5, false, "old", "old", "old"),
+        (6, false, "new", "old", "new"),
+        // No step of the save.
+        (100, true, "new", "new", "new"),
+    ];
+    for (step, is_done, stands, kept, renamed) in rows {
+        for had_file in [false, true] {
+            // One step fails, or that and the next: a cut, and a file beside that can't be removed.
+            for failing in [[step, 0], [step, step.saturating_add(1)]] {
+                let folder = folder_of(alloc, had_file, &failing)?;
+                let mut shelf = FileShelf::new(folder, alloc);
+                let saved = answer(alloc, &mut shelf, "a", Some("new"));
+                assert_eq!(rt; saved.is_ok(), is_done, "step {step}");
+                assert_eq!(rt; shelf.save_faults() == 0, is_done, "step {step}");
+                let mut folder = shelf.into_folder();
+                let left = folder.after_cut(false)?;
+                assert!(rt; holds(alloc, left, kept, had_file), "step {step}");
+                let left = folder.after_cut(true)?;
+                assert!(rt; holds(alloc, left, renamed, had_file), "step {step}");
+                let beside = folder.size(&Word::from_slice(alloc, b"a~0")?).is_ok();
+                assert_eq!(rt;
+                    beside,
+                    failing[1] != 0 && step > 1 && step < 6,
+                    "step {step}"
+                );
+                assert!(rt; holds(alloc, folder, stands, had_file), "step {step}");
+            }
+        }
+    }
+    Ok(())
+}
+
+#[test]
+fn names_for_new_files_are_no_files_of_a_shelf(rt: HostRuntime) -> Result<(), Fail> {
+    let alloc = rt.alloc();
+    let mut shelf = FileShelf::new(folder_of(alloc, true, &[])?, alloc);
+    let calls: [(&str, Option<&str>, Result<&str, LoadRefusal>); 3] = [
+        ("a~0", Some("lost"), Err(LoadRefusal::Failed)),
+        ("a~0", None, Err(LoadRefusal::Absent)),
+        ("a", None, Ok("old")),
+    ];
+    for (name, bytes, want) in calls {
+        let answer = answer(alloc, &mut shelf, name, bytes);
+        assert!(rt; is_answer(&answer, want), "at {name}");
+    }
+    assert_eq!(rt; shelf.save_faults(), 1);
+    Ok(())
+}
+
 #[test]
 fn a_failed_save_leaves_the_old_file(rt: HostRuntime) -> Result<(), Fail> {
     let alloc = rt.alloc();
     let folder = new_folder(&rt)?;
     let path = format!(in alloc; "{folder}/a")?;
-    let mut shelf = FileShelf::new(&rt, alloc);
+    let mut shelf = FileShelf::new(SystemFolder::new(&rt, alloc), alloc);
     assert!(rt; answer(alloc, &mut shelf, path.as_str(), Some("old")).is_ok());
 
     // Each name that a new file could have is taken.
-    for number in 0..100 {
-        let taken = format!(in alloc; "{path}.{number}.new")?;
+    for number in 0..10 {
+        let taken = format!(in alloc; "{path}~{number}")?;
         fs::write(&rt, taken.as_str(), "taken")?;
     }
     let answer_now = answer(alloc, &mut shelf, path.as_str(), Some("new"));
@@ -280,7 +367,7 @@ fn a_save_keeps_the_permissions(rt: HostRuntime) -> Result<(), Fail> {
     let mut own = fs::metadata(&rt, path.as_str())?.permissions();
     own.set_readonly(true);
     fs::set_permissions(&rt, path.as_str(), own)?;
-    let mut shelf = FileShelf::new(&rt, alloc);
+    let mut shelf = FileShelf::new(SystemFolder::new(&rt, alloc), alloc);
     assert!(rt; answer(alloc, &mut shelf, path.as_str(), Some("new")).is_ok());
     assert!(rt; fs::metadata(&rt, path.as_str())?.permissions().readonly());
     fs::remove_dir_all(&rt, folder.as_str())?;
@@ -290,11 +377,55 @@ fn a_save_keeps_the_permissions(rt: HostRuntime) -> Result<(), Fail> {
 #[test]
 fn a_name_that_is_no_text_is_a_fault(rt: HostRuntime) -> Result<(), Fail> {
     let alloc = rt.alloc();
-    let mut shelf = FileShelf::new(&rt, alloc);
+    let mut shelf = FileShelf::new(SystemFolder::new(&rt, alloc), alloc);
     let name = Word::from_slice(alloc, &[b'a', 255])?;
     assert_eq!(rt; shelf.load(&name).err(), Some(LoadRefusal::Failed));
     assert_eq!(rt; shelf.save(&name, b"lost"), Err(IoFault));
     assert_eq!(rt; shelf.load_faults(), 1);
     assert_eq!(rt; shelf.save_faults(), 1);
+    Ok(())
+}
+
+#[test]
+fn a_file_above_the_bound_is_a_fault(rt: HostRuntime) -> Result<(), Fail> {
+    let alloc = rt.alloc();
+    let folder = new_folder(&rt)?;
+    let path = format!(in alloc; "{folder}/a")?;
+    // It has no bytes of its own on the disk.
+    fs::create(&rt, path.as_str())?.set_len(LARGEST_FILE + 1)?;
+    let mut shelf = FileShelf::new(SystemFolder::new(&rt, alloc), alloc);
+    let loaded = answer(alloc, &mut shelf, path.as_str(), None);
+    assert!(rt; is_answer(&loaded, Err(LoadRefusal::Failed)));
+    assert_eq!(rt; shelf.load_faults(), 1);
+    fs::remove_dir_all(&rt, folder.as_str())?;
+    Ok(())
+}
+
+#[test]
+fn a_folder_that_takes_no_file_is_a_fault(rt: HostRuntime) -> Result<(), Fail> {
+    let alloc = rt.alloc();
+    let folder = new_folder(&rt)?;
+    let closed = format!(in alloc; "{folder}/closed")?;
+    fs::create_dir(&rt, closed.as_str())?;
+    let mut own = fs::metadata(&rt, closed.as_str())?.permissions();
+    own.set_readonly(true);
+    fs::set_permissions(&rt, closed.as_str(), own)?;
+    let mut shelf = FileShelf::new(SystemFolder::new(&rt, alloc), alloc);
+    // A folder that is not there, and the system's own that takes no file of any user. The closed
+    // one takes files of the superuser alone.
+    let missing = format!(in alloc; "{folder}/none/a")?;
+    for path in [missing.as_str(), "/proc/crossfs-test"] {
+        let saved = answer(alloc, &mut shelf, path, Some("lost"));
+        assert!(rt; is_answer(&saved, Err(LoadRefusal::Failed)), "at {path}");
+    }
+    let inside = format!(in alloc; "{closed}/a")?;
+    let saved = answer(alloc, &mut shelf, inside.as_str(), Some("new"));
+    let mut count = 0_u32;
+    for entry in fs::read_dir(&rt, closed.as_str())? {
+        entry?;
+        count = count.saturating_add(1);
+    }
+    assert_eq!(rt; count, if saved.is_ok() { 1 } else { 0 });
+    fs::remove_dir_all(&rt, folder.as_str())?;
     Ok(())
 }

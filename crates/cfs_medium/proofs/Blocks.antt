@@ -4,7 +4,7 @@ use Rattle.std.specs.List.{find, range_with_len}
 use Rattle.std.proofs.lemmas.Bool.{cases_lt}
 use Rattle.std.proofs.lemmas.Bool.Decides.{nat_tests}
 use Rattle.std.proofs.lemmas.List.{get_or_past}
-use Rattle.cfs_core.specs.declared.block.TheConstants.{BLOCK, BLOCKS}
+use Rattle.cfs_file.specs.declared.sizes.TheConstants.{BLOCK_LEN, FILE_BLOCKS}
 use Rattle.cfs_core.specs.declared.image.Image.{Image}
 use Rattle.cfs_core.specs.declared.inode_core.Core.{Core}
 use Rattle.cfs_core.specs.Medium.{stored, stored_byte}
@@ -44,47 +44,47 @@ found-or-missing ino block (first ∷ rest) = test (found-or-missing ino block r
 
 -- ---- the byte at a position
 
-within-byte : (ino : ℕ) (store : Store) (core : Core) (image : Image) → Depicts ino store core image → (p : ℕ) → p / BLOCK < BLOCKS →
-    byte_of (tagged_for ino (p / BLOCK) store.blocks) (p % BLOCK) ≡ stored_byte image p
-within-byte ino store core image is p within = elim (found-or-missing ino (p / BLOCK) store.blocks) [
+within-byte : (ino : ℕ) (store : Store) (core : Core) (image : Image) → Depicts ino store core image → (p : ℕ) → p / BLOCK_LEN < FILE_BLOCKS →
+    byte_of (tagged_for ino (p / BLOCK_LEN) store.blocks) (p % BLOCK_LEN) ≡ stored_byte image p
+within-byte ino store core image is p within = elim (found-or-missing ino (p / BLOCK_LEN) store.blocks) [
   | inl found ↦
-      let tag : get_or image.tags (p / BLOCK) false ≡ true = is.is_set found.0 (p / BLOCK) within found.1.0 in
-      let byte = is.bytes_are found.0 (p / BLOCK) (p % BLOCK) within found.1.0 below in
-      let place : get_or image.bytes (BLOCK * (p / BLOCK) + p % BLOCK) 0 ≡ get_or image.bytes p 0 = ap (λ (q : ℕ). get_or image.bytes q 0) position in
+      let tag : get_or image.tags (p / BLOCK_LEN) false ≡ true = is.is_set found.0 (p / BLOCK_LEN) within found.1.0 in
+      let byte = is.bytes_are found.0 (p / BLOCK_LEN) (p % BLOCK_LEN) within found.1.0 below in
+      let place : get_or image.bytes (BLOCK_LEN * (p / BLOCK_LEN) + p % BLOCK_LEN) 0 ≡ get_or image.bytes p 0 = ap (λ (q : ℕ). get_or image.bytes q 0) position in
       let read : stored_byte image p ≡ get_or image.bytes p 0 = ap (λ (b : Bool). if b then get_or image.bytes p 0 else 0) tag in
-      ap (λ (o : Option Content). byte_of o (p % BLOCK)) found.1.1 ∙ (byte ∙ (place ∙ sym read))
+      ap (λ (o : Option Content). byte_of o (p % BLOCK_LEN)) found.1.1 ∙ (byte ∙ (place ∙ sym read))
   | inr missing ↦
-      let tag : get_or image.tags (p / BLOCK) false ≡ false = unset (get_or image.tags (p / BLOCK) false) refl missing.0 in
+      let tag : get_or image.tags (p / BLOCK_LEN) false ≡ false = unset (get_or image.tags (p / BLOCK_LEN) false) refl missing.0 in
       let read : stored_byte image p ≡ 0 = ap (λ (b : Bool). if b then get_or image.bytes p 0 else 0) tag in
-      ap (λ (o : Option Content). byte_of o (p % BLOCK)) missing.1 ∙ sym read
+      ap (λ (o : Option Content). byte_of o (p % BLOCK_LEN)) missing.1 ∙ sym read
 ]
   where
-    below : p % BLOCK < BLOCK
+    below : p % BLOCK_LEN < BLOCK_LEN
     below = omega arith
 
-    position : BLOCK * (p / BLOCK) + p % BLOCK ≡ p
+    position : BLOCK_LEN * (p / BLOCK_LEN) + p % BLOCK_LEN ≡ p
     position = omega arith
 
-    unset : (b : Bool) → get_or image.tags (p / BLOCK) false ≡ b → ((at : ℕ) → IsFor ino (p / BLOCK) store.blocks at → ⊥) → b ≡ false
+    unset : (b : Bool) → get_or image.tags (p / BLOCK_LEN) false ≡ b → ((at : ℕ) → IsFor ino (p / BLOCK_LEN) store.blocks at → ⊥) → b ≡ false
     unset false tag none = refl
-    unset true tag none = let some = is.tagged (p / BLOCK) within tag in absurd (none some.0 some.1)
+    unset true tag none = let some = is.tagged (p / BLOCK_LEN) within tag in absurd (none some.0 some.1)
 
 byte-same : (ino : ℕ) (store : Store) (core : Core) (image : Image) → Depicts ino store core image → (p : ℕ) →
     byte_in ino store.blocks p ≡ stored_byte image p
-byte-same ino store core image is p = elim (cases_lt (p / BLOCK) BLOCKS) [
+byte-same ino store core image is p = elim (cases_lt (p / BLOCK_LEN) FILE_BLOCKS) [
   | inl within ↦
-      let test : nat_lt (p / BLOCK) BLOCKS ≡ true = grind (arith, nat_tests) in
+      let test : nat_lt (p / BLOCK_LEN) FILE_BLOCKS ≡ true = grind (arith, nat_tests) in
       chosen true test ∙ within-byte ino store core image is p within
   | inr past ↦
-      let test : nat_lt (p / BLOCK) BLOCKS ≡ false = grind (arith, nat_tests) in
-      let tag : get_or image.tags (p / BLOCK) false ≡ false = get_or_past image.tags (p / BLOCK) false (omega (arith, past, is.tags_are)) in
+      let test : nat_lt (p / BLOCK_LEN) FILE_BLOCKS ≡ false = grind (arith, nat_tests) in
+      let tag : get_or image.tags (p / BLOCK_LEN) false ≡ false = get_or_past image.tags (p / BLOCK_LEN) false (omega (arith, past, is.tags_are)) in
       let read : stored_byte image p ≡ 0 = ap (λ (b : Bool). if b then get_or image.bytes p 0 else 0) tag in
       chosen false test ∙ sym read
 ]
   where
-    chosen : (b : Bool) → nat_lt (p / BLOCK) BLOCKS ≡ b →
-        byte_in ino store.blocks p ≡ byte_of (if b then tagged_for ino (p / BLOCK) store.blocks else None) (p % BLOCK)
-    chosen b test = ap (λ (c : Bool). byte_of (if c then tagged_for ino (p / BLOCK) store.blocks else None) (p % BLOCK)) test
+    chosen : (b : Bool) → nat_lt (p / BLOCK_LEN) FILE_BLOCKS ≡ b →
+        byte_in ino store.blocks p ≡ byte_of (if b then tagged_for ino (p / BLOCK_LEN) store.blocks else None) (p % BLOCK_LEN)
+    chosen b test = ap (λ (c : Bool). byte_of (if c then tagged_for ino (p / BLOCK_LEN) store.blocks else None) (p % BLOCK_LEN)) test
 
 -- ---- the stored file
 

@@ -12,7 +12,8 @@ use Rattle.cfs_core.specs.Medium.{allow_bits, is_image}
 use Rattle.cfs_core.specs.Words.{can_be, is_off}
 use Rattle.cfs_core.proofs.Images.{size-allowed, tag-allowed, tags_of_image}
 use Rattle.cfs_core.proofs.Legal.{both}
-use Rattle.cfs_medium.specs.Depicts.{entries_of, entry_at}
+use Rattle.cfs_medium.specs.Store.{entry_at}
+use Rattle.cfs_medium.specs.Depicts.{entries_of}
 use Rattle.cfs_medium.specs.Laws.{EmptyStoresDepict}
 use Rattle.cfs_medium.proofs.Has.{has-contained}
 

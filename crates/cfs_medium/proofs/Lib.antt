@@ -5,4 +5,5 @@ pub mod Insertion
 pub mod Others
 pub mod Recovered
 pub mod Slots
+mod Tails
 pub mod Sorted

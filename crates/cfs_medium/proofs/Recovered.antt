@@ -12,8 +12,8 @@ use Rattle.cfs_core.specs.Good.{Rises}
 use Rattle.cfs_core.specs.Medium.{in_doubt, is_image, live_entries, recovered, stored}
 use Rattle.cfs_core.specs.Run.{IsRun, after_all}
 use Rattle.cfs_core.proofs.KeptRuns.{runs-are-good}
-use Rattle.cfs_medium.specs.Store.{Store, by_gate, live_in, recovered_file, taken_through}
-use Rattle.cfs_medium.specs.Depicts.{Depicts, entries_of, entry_at}
+use Rattle.cfs_medium.specs.Store.{Store, by_gate, entry_at, live_in, recovered_file, taken_through}
+use Rattle.cfs_medium.specs.Depicts.{Depicts, entries_of}
 use Rattle.cfs_medium.proofs.Blocks.{stored-same}
 use Rattle.cfs_medium.proofs.Has.{Has, contains-had, has-contained}
 use Rattle.cfs_medium.proofs.Slots.{live-apart, live-stands, stands-live}

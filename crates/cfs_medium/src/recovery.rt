@@ -1,14 +1,17 @@
 //! The file that a store recovers, as a plain and slow program.
 
-ghost use Rattle.std.specs.Prelude.{◌≡◌, ◌==◌, ◌≤◌, [], drop, get_or, length, nat_le, position, IfOk, OnOk};
-ghost use Rattle.std.specs.List.{find, position_or_len};
-ghost use Rattle.cfs_slot.specs.Words.{is_live, payload_of, request_of};
+ghost use Rattle.std.specs.Prelude.{◌≡◌, ◌==◌, ◌<◌, ◌≤◌, [], ◌++◌, drop, get_or, length, nat_le, position, if◌then◌else◌, IfOk, OnOk};
+ghost use Rattle.std.specs.List.{find, flat_map, position_or_len};
+ghost use Rattle.cfs_slot.specs.Words.{area_of, count_of, is_live, kind_of, payload_of, request_of, tails_of};
+ghost use Rattle.cfs_slot.specs.Tails.{tails_at};
 ghost use Rattle.cfs_medium.specs.Store.{by_gate, byte_in, byte_of, live_in, put_by_gate, recovered_file, stored_file, tag_of, taken_through};
 ghost use Rattle.cfs_medium.specs.Found.{contents_of, store_of};
 
-use cfs_core::{BLOCK, BLOCKS, Items};
-use cfs_file::{Bytes, NoMemory, Request, apply};
-use cfs_slot::{GATE, INO, KIND, MARK, OFFSET, PAYLOAD, TRUNCATE};
+use cfs_core::Items;
+use cfs_file::{BLOCK_LEN, Bytes, FILE_BLOCKS, KIND_UNIT, NoMemory, Request, apply};
+use cfs_slot::{
+    GATE, INO, KIND, LONG_WRITE, MARK, OFFSET, PAYLOAD, QUEUE_SLOTS, TAILS_UNIT, TRUNCATE,
+};
 use std::alloc::{AllocError, Global};
 
 /// A block as it was read.
@@ -51,8 +54,8 @@ fn tagged_byte(blocks: &[BlockFound], ino: u64, block: u64, at: u64) -> u8
 fn byte_at(blocks: &[BlockFound], ino: u64, position: u64) -> u8
     ensures { result ≡ byte_in ino (contents_of blocks.now) position }
 {
-    if position / BLOCK < BLOCKS {
-        tagged_byte(blocks, ino, position / BLOCK, position % BLOCK)
+    if position / BLOCK_LEN < FILE_BLOCKS {
+        tagged_byte(blocks, ino, position / BLOCK_LEN, position % BLOCK_LEN)
     } else {
         0
     }
@@ -94,27 +97,88 @@ fn payload_words(words: &[u64]) -> &[u64]
     &words[from..]
 }
 
-fn payload(alloc: Global, words: &[u64]) -> Result<Bytes, NoMemory>
-    ensures { IfOk result (λ bytes. bytes ≡ payload_of words.now) }
+/// Appends the bytes of the words behind the fields.
+fn push_area(bytes: &mut Vec<u8>, words: &[u64]) -> Result<(), NoMemory>
+    ensures { OnOk result (bytes.new.items ≡ bytes.old.items ++ area_of words.now) }
 {
-    let mut bytes = Vec::new(alloc);
     for word in payload_words(words) {
         bytes.extend_from_slice(&word.to_le_bytes())?;
     }
-    bytes.truncate((word_at(words, KIND) % 65_536) as usize);
+    Ok(())
+}
+
+fn kind(words: &[u64]) -> u64
+    ensures { result ≡ kind_of words.now }
+{
+    word_at(words, KIND) % TAILS_UNIT / KIND_UNIT
+}
+
+/// How many bytes the entry has whose first slot holds these words.
+fn count(words: &[u64]) -> u64
+    ensures { result ≡ count_of words.now }
+{
+    let rest = word_at(words, KIND) % KIND_UNIT;
+    if kind(words) == LONG_WRITE {
+        rest + 1
+    } else {
+        rest
+    }
+}
+
+/// Appends the bytes of the slot at a place, if it is a tail and there is one.
+fn push_tail(
+    bytes: &mut Vec<u8>,
+    slots: &[Items<u64>],
+    place: usize,
+    is_tail: bool,
+) -> Result<(), NoMemory>
+    ensures { OnOk result (bytes.new.items ≡
+        bytes.old.items ++ (if is_tail then area_of (get_or slots.now place []) else [])) }
+{
+    if is_tail && let Some(tail) = slots.get(place) {
+        push_area(bytes, tail.as_slice())?;
+    }
+    Ok(())
+}
+
+/// Appends the bytes of the tails of the head at a place.
+fn push_tails(bytes: &mut Vec<u8>, slots: &[Items<u64>], at: usize) -> Result<(), NoMemory>
+    requires { at < length slots.now }
+    ensures { OnOk result (bytes.new.items ≡ bytes.old.items ++ flat_map area_of (tails_at slots.now at)) }
+{
+    let first = at / QUEUE_SLOTS * QUEUE_SLOTS;
+    let mut tails = word_at(slots[at].as_slice(), KIND) / TAILS_UNIT;
+    for number in 0..QUEUE_SLOTS {
+        push_tail(bytes, slots, first + number, tails % 2 == 1)?;
+        tails /= 2;
+    }
+    Ok(())
+}
+
+fn payload(alloc: Global, slots: &[Items<u64>], at: usize) -> Result<Bytes, NoMemory>
+    requires { at < length slots.now }
+    ensures { IfOk result (λ bytes. bytes ≡ payload_of (get_or slots.now at []) (tails_at slots.now at)) }
+{
+    let words = slots[at].as_slice();
+    let mut bytes = Vec::new(alloc);
+    push_area(&mut bytes, words)?;
+    push_tails(&mut bytes, slots, at)?;
+    bytes.truncate(count(words) as usize);
     Ok(Bytes::from_vec(bytes))
 }
 
-/// The request that the words stand for.
-fn request_of(alloc: Global, words: &[u64]) -> Result<Request, NoMemory>
-    ensures { IfOk result (λ request. request ≡ request_of words.now) }
+/// The request that the slot at a place stands for, with its tails.
+fn request_at(alloc: Global, slots: &[Items<u64>], at: usize) -> Result<Request, NoMemory>
+    requires { at < length slots.now }
+    ensures { IfOk result (λ request. request ≡ request_of (get_or slots.now at []) (tails_at slots.now at)) }
 {
-    if word_at(words, KIND) / 65_536 == TRUNCATE {
+    let words = slots[at].as_slice();
+    if kind(words) == TRUNCATE {
         return Ok(Request::Truncate {
             length: word_at(words, OFFSET),
         });
     }
-    let bytes = payload(alloc, words)?;
+    let bytes = payload(alloc, slots, at)?;
     Ok(Request::Write {
         offset: word_at(words, OFFSET),
         bytes,
@@ -161,7 +225,7 @@ fn live_by_gate(
     for at in (0..slots.len()).rev() {
         let words = slots[at].as_slice();
         if is_live(words, ino) {
-            let request = request_of(alloc, words)?;
+            let request = request_at(alloc, slots, at)?;
             put_by_gate(&mut entries, word_at(words, GATE), request)?;
         }
     }

@@ -14,6 +14,11 @@ const ONE_BYTE: u64 = 65_537;
 
 const CUT: u64 = 131_072;
 
+/// The kind of the head of a long write, and what its set of tails is multiplied by.
+const HEAD: u64 = 196_608;
+
+const TAILS: u64 = 4_294_967_296;
+
 /// A slot's gate, mark, inode number, offset, kind with length, and first eight bytes.
 type Row = (u64, u64, u64, u64, u64, u64);
 
@@ -121,5 +126,33 @@ fn a_file_goes_on_in_its_next_block(rt: HostRuntime) -> Result<(), Fail> {
     let file = recover(alloc, 5, 4098, &[], blocks.as_slice())?;
     assert_eq!(rt; file.len(), 4098);
     assert_eq!(rt; file.part(4094, 9), b"\0\0ne".as_slice());
+    Ok(())
+}
+
+// The head stands in slot 2 of queue 1, its tails in slots 4 and 9 of the same queue; slot 4 of queue 0 is
+// none of them. Slots of two words of payload stand for those of 512.
+#[test]
+fn a_long_write_is_read_from_its_head_and_its_tails(rt: HostRuntime) -> Result<(), Fail> {
+    let alloc = rt.alloc();
+    let blocks = blocks(alloc)?;
+    let none: Row = (0, 0, 0, 0, 0, 0);
+    let tail = |text: &[u8; 8]| (0, 0, 5, 0, 262_160, u64::from_le_bytes(*text));
+    for (length, expected) in [
+        (
+            36,
+            b"a0123456\0\0\0\0\0\0\0\0\0ABCDEFGH\0\0\0\0\0\0\0\0stuv".as_slice(),
+        ),
+        (17, b"a0123456\0\0\0\0\0\0\0\0\0A".as_slice()),
+    ] {
+        let mut rows = [none; 32];
+        let set = TAILS * 528;
+        rows[18] = (7, 0, 5, 1, set + HEAD + length - 1, word(b"0123456\0"));
+        rows[20] = tail(b"ABCDEFGH");
+        rows[25] = tail(b"stuvwxyz");
+        rows[4] = tail(b"nobody's");
+        let slots = slots(alloc, &rows)?;
+        let file = recover(alloc, 5, 3, slots.as_slice(), blocks.as_slice())?;
+        assert_eq!(rt; file.as_slice(), expected, "{length} bytes");
+    }
     Ok(())
 }

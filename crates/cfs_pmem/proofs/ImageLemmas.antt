@@ -43,9 +43,9 @@ word_before history at word l image h k lk ne =
     (h.held k lk)
 
 -- an image after a write is one from before, or that with the word set
-pub image_wrote : (history : List WordStep) (device at word : ℕ) → at < length (words_now history) → (image : List ℕ)
-    → IsImage (changed (set (words_now history) at word) ∷ history) image → IsSetFrom record { device = device; history = history } at word image
-image_wrote history device at word l image h =
+pub image_wrote : (history : List WordStep) (device : ℕ) (also : List ℕ) (at word : ℕ) → at < length (words_now history) → (image : List ℕ)
+    → IsImage (changed (set (words_now history) at word) ∷ history) image → IsSetFrom record { device = device; also = also; history = history } at word image
+image_wrote history device also at word l image h =
     let size : length image ≡ length (words_now history) = h.size ∙ length-set (words_now history) at word in
     let la : at < length image = subst (λ n. at < n) (sym size) l in
     let old : ℕ = get_or (words_now history) at 0 in
@@ -90,7 +90,7 @@ pub all_wrote : (P : List ℕ → Type 0) (old : Seen WordStep) {new : Seen Word
     → ((image : List ℕ) → P image → P (set image at word)) → AllImages new P
 all_wrote P old {new} at word l e all stays =
     subst (λ s. AllImages s P) (sym e)
-    (λ image h. let from = image_wrote old.history old.device at word l image h in
+    (λ image h. let from = image_wrote old.history old.device old.also at word l image h in
     ⊎_elim
     (λ same. subst (λ words. P words) (sym same) (all from.first from.possible))
     (λ same. subst (λ words. P words) (sym same) (stays from.first (all from.first from.possible)))
@@ -98,7 +98,7 @@ all_wrote P old {new} at word l e all stays =
 
 -- an image after a write is one from before, or that with the word set
 pub set_from_wrote : (old : Seen WordStep) {new : Seen WordStep} (at word : ℕ) → at < length (words_of old) → new ≡ wrote at word old → AllImages new (IsSetFrom old at word)
-set_from_wrote old {new} at word l e = subst (λ s. AllImages s (IsSetFrom old at word)) (sym e) (λ image h. image_wrote old.history old.device at word l image h)
+set_from_wrote old {new} at word l e = subst (λ s. AllImages s (IsSetFrom old at word)) (sym e) (λ image h. image_wrote old.history old.device old.also at word l image h)
 
 -- an image of the region is one from before
 pub set_from_same : (old : Seen WordStep) (at word : ℕ) → AllImages old (IsSetFrom old at word)

@@ -1,5 +1,12 @@
+pub mod AllMomentLemmas
+pub mod ObjectLemmas
+pub mod AskLemmas
 pub mod Crashes
 pub mod Ranges
 pub mod ImageLemmas
 pub mod MomentLemmas
+pub mod CallLemmas
+pub mod Patches
+pub mod RunLemmas
+pub mod WordLemmas
 pub mod MemRegions

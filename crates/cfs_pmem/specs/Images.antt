@@ -1,21 +1,31 @@
--- What a region holds, and what a crash may leave of it, as definitions over the history of its writing steps.
-use Rattle.std.specs.Prelude.{ℕ, ◌<◌, ◌≡◌, ◌⊎◌, List, [], ◌∷◌, length}
+-- What a region holds, and what a crash may leave of it, as definitions over the history of its
+-- writing steps.
+use Rattle.std.specs.Prelude.{ℕ, ◌+◌, ◌-◌, ◌<◌, ◌≤◌, ◌≡◌, ◌⊎◌, List, [], ◌∷◌, ◌++◌, length, take, drop}
 use Rattle.std.proofs.Math.ListN.{get_or, set}
 
--- One writing step, with the words after it: a persist that succeeded, or any other step, failed ones included.
+-- One writing step, with the words after it: a persist that succeeded, or any other step, failed
+-- ones included.
 pub data WordStep : Type 0 where
   changed : List ℕ → WordStep
   persisted : List ℕ → WordStep
 
--- A device: its number, and its writing steps so far, the newest first. The oldest entry is what it came with.
+-- A device: its number, and its writing steps so far, the newest first. The oldest entry is what it
+-- came with.
 -- The length of the history is its clock, and n writing steps ago the history was `drop n`.
-pub record Seen (Step : Type 0) : Type 0 where
+-- `also` are the numbers of further devices that its calls make steps on, as those of a mirror; in
+-- memory there are none.
+pub record Seen (Form : Type 0) : Type 0 where
   pub device : ℕ
-  pub history : List Step
+  pub also : List ℕ
+  pub history : List Form
+
+-- the devices that its calls make steps on
+abbrev pub devices_of : {Form : Type 0} → Seen Form → List ℕ
+devices_of seen = seen.device ∷ seen.also
 
 -- the device after one more writing step
-abbrev pub stepped : {Step : Type 0} → Step → Seen Step → Seen Step
-stepped step seen = record { device = seen.device; history = step ∷ seen.history }
+abbrev pub stepped : {Form : Type 0} → Form → Seen Form → Seen Form
+stepped step seen = record { device = seen.device; also = seen.also; history = step ∷ seen.history }
 
 -- the words after the newest step, which a read returns
 abbrev pub words_now : List WordStep → List ℕ
@@ -34,7 +44,7 @@ words_of seen = words_now seen.history
 
 -- a region that came with these words, which are all that a crash may leave
 abbrev pub began : ℕ → List ℕ → Seen WordStep
-began device words = record { device = device; history = persisted words ∷ [] }
+began device words = record { device = device; also = []; history = persisted words ∷ [] }
 
 -- the region after a write of a word, after a step that failed, and after a persist
 abbrev pub wrote : ℕ → ℕ → Seen WordStep → Seen WordStep
@@ -52,7 +62,8 @@ HasHeld [] k v = ⊥
 HasHeld (persisted words ∷ before) k v = v ≡ get_or words k 0
 HasHeld (changed words ∷ before) k v = (v ≡ get_or words k 0) ⊎ HasHeld before k v
 
--- What a crash may leave: in each word, by itself, one of the values that it held since the newest persist that succeeded.
+-- What a crash may leave: in each word, by itself, one of the values that it held since the newest
+-- persist that succeeded.
 pub record IsImage (history : List WordStep) (image : List ℕ) : Type 0 where
   pub size : length image ≡ length (words_now history)
   pub held : (k : ℕ) → k < length image → HasHeld history k (get_or image k 0)
@@ -71,10 +82,17 @@ pub record IsSetFrom (seen : Seen WordStep) (at word : ℕ) (image : List ℕ) :
   pub possible : IsImage seen.history first
   pub same : (image ≡ first) ⊎ (image ≡ set first at word)
 
--- Of a call that writes a word and persists it: it stopped at the write, and changed no word, or at the persist.
-abbrev pub SettingStopped : ℕ → ℕ → List ℕ → Seen WordStep → List ℕ → Seen WordStep → Type 0
-SettingStopped at word steps_old old steps_new new =
-    ((new ≡ failed old) × (steps_new ≡ old.device ∷ steps_old)) ⊎ ((new ≡ failed (wrote at word old)) × (steps_new ≡ old.device ∷ old.device ∷ steps_old))
+-- an image of that region, or one with some of these words set, which stand from a place on
+pub record IsSetWithin (seen : Seen WordStep) (from : ℕ) (words image : List ℕ) : Type 0 where
+  pub first : List ℕ
+  pub possible : IsImage seen.history first
+  pub size : length image ≡ length first
+  pub each : (k : ℕ) → k < length image → (get_or image k 0 ≡ get_or first k 0) ⊎
+      ((from ≤ k) × (k < from + length words) × (get_or image k 0 ≡ get_or words (k - from) 0))
+
+-- those words with others written over them from a place on
+abbrev pub patched : List ℕ → ℕ → List ℕ → List ℕ
+patched words from new = take from words ++ (new ++ drop (from + length new) words)
 
 -- A region in memory, as contracts see it.
 pub record MemoryRegion : Type 0 where

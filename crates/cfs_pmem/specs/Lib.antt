@@ -1,9 +1,16 @@
+pub mod AllMoments
+pub mod Answered
+pub mod Asks
 pub mod Backed
 pub mod Draws
 pub mod Faults
 pub mod Images
 pub mod Log
 pub mod Meter
+pub mod Meters
 pub mod Moments
+pub mod Objects
+pub mod Operations
 pub mod Range
-pub mod Steps
+pub mod Runs
+pub mod WordOps

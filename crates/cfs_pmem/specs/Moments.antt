@@ -1,15 +1,52 @@
--- The moments of a call that makes its writing steps on one device alone.
-use Rattle.std.specs.Prelude.{ℕ, ◌+◌, ◌≤◌, ◌≡◌, List, ◌++◌, length, drop, replicate}
-use Rattle.cfs_pmem.specs.Images.{Seen}
+-- The moments of a call on one object.
+use Rattle.std.specs.Prelude.{ℕ, suc, ◌+◌, ◌<◌, ◌≤◌, ◌≡◌, List, [], ◌∷◌, ◌++◌, length, drop}
+use Rattle.cfs_pmem.specs.declared.trace.Asked.{Asked}
+use Rattle.cfs_pmem.specs.Images.{Seen, devices_of}
+use Rattle.cfs_pmem.specs.Asks.{AreStepsOn}
 
--- At each moment of a call, before its first step, between two steps and after its last one, each image has P.
--- `IsImage` says what an image of a history is: that of regions here, that of blocks in the crate of blocks.
-pub record Moments {Step Image : Type 0} (IsImage : List Step → Image → Type 0) (P : Image → Type 0) (steps_old : List ℕ) (old : Seen Step) (steps_new : List ℕ) (new : Seen Step) : Type 0 where
-  -- so many writing steps were made, each on this device, and its clock rose by as many
-  pub made : ℕ
+-- One call of a device, with what it asked of the power, the newest first: one that wrote, and is
+-- one tick of the
+-- object's clock, or one that read.
+pub data Call : Type 0 where
+  ticking : List Asked → Call
+  reading : List Asked → Call
+
+-- of a list of calls, the newest first: how many of them ticked
+abbrev pub ticks_in : List Call → ℕ
+ticks_in [] = 0
+ticks_in (ticking asked ∷ before) = suc (ticks_in before)
+ticks_in (reading asked ∷ before) = ticks_in before
+
+-- and what they asked
+abbrev pub asked_in : List Call → List Asked
+asked_in [] = []
+asked_in (ticking asked ∷ before) = asked ++ asked_in before
+asked_in (reading asked ∷ before) = asked ++ asked_in before
+
+-- each of them asked for steps of these devices alone, and for one at least
+abbrev pub AreCallsOn : List ℕ → List Call → Type 0
+AreCallsOn devices [] = Unit {0}
+AreCallsOn devices (ticking asked ∷ before) =
+    (0 < length asked) × AreStepsOn devices asked × AreCallsOn devices before
+AreCallsOn devices (reading asked ∷ before) =
+    (0 < length asked) × AreStepsOn devices asked × AreCallsOn devices before
+
+-- At each moment of a call, before its first step, between two steps and after its last one, each
+-- image has P.
+-- `IsImage` says what an image of a history is: that of regions here, that of blocks in the crate
+-- of blocks.
+pub record Moments {Form Image : Type 0} (IsImage : List Form → Image → Type 0) (P : Image → Type 0)
+    (asked_old : List Asked) (old : Seen Form) (asked_new : List Asked)
+    (new : Seen Form) : Type 0 where
+  -- it is made of these calls, each on the object's own devices, and its clock rose by one for each
+  -- that ticked
+  pub calls : List Call
+  pub own : AreCallsOn (devices_of old) calls
+  pub asked : asked_new ≡ asked_in calls ++ asked_old
   pub same : new.device ≡ old.device
-  pub steps : steps_new ≡ replicate made old.device ++ steps_old
-  pub clock : length new.history ≡ made + length old.history
+  pub same_also : new.also ≡ old.also
+  pub clock : length new.history ≡ ticks_in calls + length old.history
   -- the past stays as it was
-  pub before : drop made new.history ≡ old.history
-  pub each : (ago : ℕ) → ago ≤ made → (image : Image) → IsImage (drop ago new.history) image → P image
+  pub before : drop (ticks_in calls) new.history ≡ old.history
+  pub each : (ago : ℕ) → ago ≤ ticks_in calls → (image : Image)
+      → IsImage (drop ago new.history) image → P image

@@ -1,4 +1,5 @@
--- A range of places, as the least that holds all that were added to it, and the two copies that may differ in it alone.
+-- A range of places, as the least that holds all that were added to it, and the two copies that may
+-- differ in it alone.
 use Rattle.std.specs.Prelude.{ℕ, ◌≤◌, ◌≡◌, List, length, take, drop, min, max}
 use Rattle.cfs_pmem.specs.declared.dirty.Dirty.{Dirty}
 

@@ -1,7 +1,8 @@
 //! The range of places that were written since the last persist.
 ghost use Rattle.std.specs.Prelude.{◌≡◌, length};
 
-/// The least range that holds every place that was added: `from..to`, or none where `to` is not above `from`.
+/// The least range that holds every place that was added: `from..to`, or none where `to` is not
+/// above `from`.
 #[derive(Clone, Copy, Debug)]
 pub struct Dirty {
     pub from: u32,
@@ -27,7 +28,8 @@ impl Dirty {
         self.to = self.to.max(to);
     }
 
-    /// Makes what is durable equal to what is present, where the two differ in this range alone. Copies the range.
+    /// Makes what is durable equal to what is present, where the two differ in this range alone.
+    /// Copies the range.
     #[inline]
     pub fn copy<T: Copy>(self, present: &Vec<T>, durable: &mut Vec<T>)
         requires { DifferWithin self durable.old.items present.now.items }

@@ -6,7 +6,8 @@ use std::marker::Model;
 use std::mem;
 use std::snapshot::Snapshot;
 
-/// The words after each writing step of a region. Contracts alone read it, as a list of `WordStep`, the newest first.
+/// The words after each writing step of a region. Contracts alone read it, as a list of `WordStep`,
+/// the newest first.
 #[derive(Drop)]
 pub struct History {
     past: Snapshot<Past>,

@@ -12,7 +12,8 @@ use crate::region::Region;
 use std::alloc::{AllocFailed, Global};
 use std::marker::Model;
 
-/// A region that keeps a durable and a present copy of its words. It takes no memory once it is made, and a persist copies what was written since the last one.
+/// A region that keeps a durable and a present copy of its words. It takes no memory once it is
+/// made, and a persist copies what was written since the last one.
 #[derive(Drop)]
 pub struct MemRegion {
     device: u32,
@@ -28,22 +29,28 @@ impl Model for MemRegion {
 
     ghost Value = { MemoryRegion };
 
+    ghost use Rattle.std.specs.Prelude.{[]};
     ghost use Rattle.cfs_pmem.specs.Backed.{IsBacked};
 
-    ghost view = { λ r. record { seen = record { device = r.device; history = r.history }; faults = r.faults } };
+    ghost view = { λ r. record {
+      seen = record { device = r.device; also = []; history = r.history };
+      faults = r.faults;
+    } };
 
     ghost invariant = { λ r. IsBacked r.history r.dirty r.durable.items r.present.items };
 }
 
 impl MemRegion {
-    /// A region of these words, which are durable. Without memory for the second copy the words are given back.
+    /// A region of these words, which are durable. Without memory for the second copy the words are
+    /// given back.
     pub fn new(
         alloc: Global,
         device: u32,
         words: Vec<u64>,
     ) -> Result<MemRegion, AllocFailed<Vec<u64>>>
         requires { vec_len words < 2 ^ 32 }
-        ensures ok { IfOk result (λ region. region ≡ record { seen = began device words.items; faults = 0 }) }
+        ensures ok { IfOk result (λ region.
+            region ≡ record { seen = began device words.items; faults = 0 }) }
         ensures err { IfErr result (λ refused. refused.value ≡ words) }
     {
         match Vec::from_slice(alloc, &words) {
@@ -66,13 +73,15 @@ impl MemRegion {
         &self.present
     }
 
-    /// Loses power: one image is left, word by word as the pick says, and both copies and all that a later crash may leave are that image.
+    /// Loses power: one image is left, word by word as the pick says, and both copies and all that
+    /// a later crash may leave are that image.
     /// The clock begins anew.
     pub fn crash(&mut self, pick: &mut Pick)
         ensures image { IsImage self.old.seen.history (words_of self.new.seen) }
         ensures left { self.new.seen ≡ began self.old.seen.device
             (words_left pick.old (words_kept self.old.seen.history) (words_of self.old.seen)) }
-        ensures pick { pick.new ≡ after_words pick.old (words_kept self.old.seen.history) (words_of self.old.seen) }
+        ensures pick { pick.new ≡
+            after_words pick.old (words_kept self.old.seen.history) (words_of self.old.seen) }
         ensures faults { self.new.faults ≡ self.old.faults }
     {
         leave(pick, &mut self.durable, &mut self.present);
@@ -121,6 +130,7 @@ impl Region for MemRegion {
     }
 
     #[inline]
+    #[tactic(auto, using(crate::proofs::AskLemmas::asks_one))]
     fn read<P: Power>(&mut self, power: &mut P, at: u32) -> Result<u64, DeviceFault> {
         if !power.step(self.device, false) {
             return Err(self.fault());
@@ -129,6 +139,7 @@ impl Region for MemRegion {
     }
 
     #[inline]
+    #[tactic(auto, using(crate::proofs::AskLemmas::asks_one))]
     fn write<P: Power>(&mut self, power: &mut P, at: u32, word: u64) -> Result<(), DeviceFault> {
         if !power.step(self.device, true) {
             self.history.change(&self.present);
@@ -141,6 +152,7 @@ impl Region for MemRegion {
     }
 
     #[inline]
+    #[tactic(auto, using(crate::proofs::AskLemmas::asks_one))]
     fn persist<P: Power>(&mut self, power: &mut P) -> Result<(), DeviceFault> {
         if !power.step(self.device, true) {
             self.history.change(&self.present);

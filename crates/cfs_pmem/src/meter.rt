@@ -1,15 +1,13 @@
 //! The power of one thread, with a stop and single refusals that are planned ahead.
-ghost use Rattle.std.specs.Prelude.{◌≡◌, ◌+◌, ◌-◌, ◌<◌, ◌≤◌, [], ◌∷◌, ◌++◌, OnOk, OnErr, not, map, filter};
-ghost use Rattle.std.specs.Bool.{OnTrue, OnFalse};
+ghost use Rattle.std.specs.Prelude.{◌≡◌, ◌-◌, ◌<◌, [], ◌∷◌, OnOk, OnErr, not, map, filter};
 ghost use Rattle.std.specs.List.{list_any};
-ghost use Rattle.cfs_pmem.specs.Faults.{Rose};
-ghost use Rattle.cfs_pmem.specs.Steps.{with_step, with_read};
-ghost use Rattle.cfs_pmem.specs.Meter.{plans_after, is_due, counted, is_off, refuses, counted_step, after_step};
+ghost use Rattle.cfs_pmem.specs.declared.trace.Asked.TheVariants.{Step, Stopped, Planned, Revived};
+ghost use Rattle.cfs_pmem.specs.Meter.{supply_of, plans_after, is_due, counted, is_off, refuses, supply_after, IsMetered};
+ghost use Rattle.cfs_pmem.specs.Answered.{metered_prop};
 
 use crate::power::Power;
-use crate::trace::Trace;
+use crate::trace::{Asked, Trace};
 use std::alloc::{AllocError, Global};
-use std::marker::Model;
 
 /// Whether a stop is set, and how far off it is.
 #[derive(Clone, Copy, Debug, PartialEq, Eq)]
@@ -40,21 +38,8 @@ pub struct Meter {
     armed: bool,
     supply: Supply,
     plans: Vec<Plan>,
-    refused: u64,
-    steps: Trace,
-    reads: Trace,
-}
-
-impl Model for Meter {
-    ghost use Rattle.cfs_pmem.specs.Meter.{State};
-
-    ghost Value = { State };
-
-    ghost view = { λ m. record { supply = m.supply; plans = m.plans.items; steps = m.steps; reads = m.reads; refused = m.refused } };
-
-    ghost use Rattle.cfs_pmem.specs.Meter.{IsArmed};
-
-    ghost invariant = { λ m. IsArmed m.armed m.supply m.plans.items };
+    trace: Trace,
+    pub ghost metered: { IsMetered trace armed supply plans.items } by { metered_prop },
 }
 
 impl Supply {
@@ -138,37 +123,52 @@ fn spend(plans: &mut Vec<Plan>, device: u32, writing: bool) -> bool
     refuses
 }
 
+/// Counts one more step towards the stop and in each plan. Answers whether it passes.
+#[cold]
+#[inline(never)]
+fn count(supply: &mut Supply, plans: &mut Vec<Plan>, device: u32, writing: bool) -> bool
+    ensures answer { result ≡ not (refuses device writing supply.old plans.old.items) }
+    ensures supply { supply.new ≡ supply_after writing supply.old }
+    ensures plans { plans.new.items ≡ plans_after device writing plans.old.items }
+{
+    supply.pass(writing);
+    let planned = spend(plans, device, writing);
+    !(planned || supply.is_off())
+}
+
 impl Meter {
+    ghost use Rattle.cfs_pmem.specs.Meters.{asked_of};
+
     /// A power that refuses nothing until it is told to.
     pub fn calm(alloc: Global) -> Meter
-        ensures { result ≡ record { supply = Supply.Steady; plans = []; steps = []; reads = []; refused = 0 } }
+        ensures { asked_of result ≡ [] }
     {
         Meter {
             armed: false,
             supply: Supply::Steady,
             plans: Vec::new(alloc),
-            refused: 0,
-            steps: Trace::new(),
-            reads: Trace::new(),
+            trace: Trace::new(),
         }
     }
 
-    /// Sets the stop, in place of an earlier one: the `n`th writing step from now and all later steps are refused.
+    /// Sets the stop, in place of an earlier one: the `n`th writing step from now and all later
+    /// steps are refused.
     pub fn stop(&mut self, n: u64)
         requires { 0 < n }
-        ensures { self.new ≡ record self.old { supply = Supply.Until (n - 1) } }
+        ensures { asked_of self.new ≡ Stopped n ∷ asked_of self.old }
     {
         self.armed = true;
         self.supply = Supply::Until(n - 1);
+        self.trace.push(Asked::Stopped(n));
     }
 
-    /// Plans one refusal: of the `k`th step of this device and direction from now.
+    /// Plans that the `k`th step from now of this device and direction is refused. Without memory
+    /// for the plan nothing is changed.
     pub fn plan(&mut self, device: u32, writing: bool, k: u64) -> Result<(), AllocError>
         requires { 0 < k }
-        ensures ok { OnOk result (self.new ≡ record self.old {
-          plans = self.old.plans ++ record { device = device; writing = writing; passing = k - 1 } ∷ [];
-        }) }
-        ensures err { OnErr result (self.new ≡ self.old) }
+        ensures ok { OnOk result
+            (asked_of self.new ≡ Planned device writing k ∷ asked_of self.old) }
+        ensures err { OnErr result (asked_of self.new ≡ asked_of self.old) }
     {
         self.plans.push(Plan {
             device,
@@ -176,65 +176,35 @@ impl Meter {
             passing: k - 1,
         })?;
         self.armed = true;
+        self.trace.push(Asked::Planned(device, writing, k));
         Ok(())
     }
 
-    /// Ends the stop and all plans.
+    /// Ends the stop and all plans. What it was asked so far stays.
     pub fn revive(&mut self)
-        ensures { self.new ≡ record self.old { supply = Supply.Steady; plans = [] } }
+        ensures { asked_of self.new ≡ Revived ∷ asked_of self.old }
     {
         self.armed = false;
         self.supply = Supply::Steady;
         self.plans.clear();
+        self.trace.push(Asked::Revived);
     }
 
     /// Whether the stop has come.
     pub fn is_off(&self) -> bool
-        ensures { result ≡ is_off self.now.supply }
+        ensures { result ≡ is_off (supply_of (asked_of self.now)) }
     {
         self.supply.is_off()
-    }
-
-    /// Counts a step towards the stop and in each plan. Answers whether it passes.
-    #[cold]
-    #[inline(never)]
-    fn count(&mut self, device: u32, writing: bool) -> bool
-        ensures answer { result ≡ not (refuses device writing self.old) }
-        ensures after { self.new ≡ counted_step device writing self.old }
-    {
-        self.supply.pass(writing);
-        let planned = spend(&mut self.plans, device, writing);
-        let passes = !(planned || self.supply.is_off());
-        if !passes {
-            self.refused = self.refused.saturating_add(1);
-        }
-        passes
     }
 }
 
 impl Power for Meter {
-    ghost steps = { λ m. m.steps };
-
-    ghost reads = { λ m. m.reads };
-
-    ghost refused = { λ m. m.refused };
+    ghost asked = { λ m. m.trace };
 
     #[inline]
-    fn step(&mut self, device: u32, writing: bool) -> bool
-        ensures steps { self.new.steps ≡ with_step device writing self.old.steps }
-        ensures reads { self.new.reads ≡ with_read device writing self.old.reads }
-        ensures later { self.old.refused ≤ self.new.refused }
-        ensures allowed { OnTrue result (self.new.refused ≡ self.old.refused) }
-        ensures refused { OnFalse result (Rose self.old.refused self.new.refused) }
-        // It refuses exactly what the stop and the plans say.
-        ensures answer { result ≡ not (refuses device writing self.old) }
-        ensures after { self.new ≡ after_step device writing self.old }
-    {
-        if writing {
-            self.steps.push(device);
-        } else {
-            self.reads.push(device);
-        }
-        !self.armed || self.count(device, writing)
+    fn step(&mut self, device: u32, writing: bool) -> bool {
+        let allowed = !self.armed || count(&mut self.supply, &mut self.plans, device, writing);
+        self.trace.push(Asked::Step(device, writing, allowed));
+        allowed
     }
 }

@@ -25,7 +25,8 @@ impl Pick {
         }
     }
 
-    /// The word that a crash leaves. Draws once where the two differ: an even draw leaves the durable one.
+    /// The word that a crash leaves. Draws once where the two differ: an even draw leaves the
+    /// durable one.
     pub fn word(&mut self, durable: u64, present: u64) -> u64
         ensures word { result ≡ word_left self.old durable present }
         ensures pick { self.new ≡ after_word self.old durable present }
@@ -43,7 +44,8 @@ impl Pick {
         }
     }
 
-    /// The byte that a crash leaves. Where it was written since the last flush that succeeded, a draw modulo 256 is the byte, whether the two differ or not.
+    /// The byte that a crash leaves. Where it was written since the last flush that succeeded, a
+    /// draw modulo 256 is the byte, whether the two differ or not.
     pub fn byte(&mut self, written: bool, durable: u8, present: u8) -> u8
         ensures byte { result ≡ byte_left written self.old durable present }
         ensures pick { self.new ≡ after_byte written self.old durable present }
@@ -62,7 +64,8 @@ impl Pick {
     }
 }
 
-/// One draw of a linear congruential generator with the constants of Knuth's MMIX: the upper 31 bits of its next state.
+/// One draw of a linear congruential generator with the constants of Knuth's MMIX: the upper 31
+/// bits of its next state.
 fn draw(state: &mut u64) -> u64
     ensures drawn { result ≡ draw_of state.old }
     ensures state { state.new ≡ next_state state.old }

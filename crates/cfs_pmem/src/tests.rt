@@ -1,4 +1,7 @@
-use crate::{DeviceFault, MemRegion, Meter, Pick, Power, Region, set_word};
+use crate::{
+    DeviceFault, MemRegion, Meter, Pick, Power, Region, set_word, set_word_metered, set_word_of,
+    set_word_with_stop, write_words,
+};
 use std::alloc::{AllocError, Global};
 use std::test::Fail;
 
@@ -53,7 +56,8 @@ fn a_crash_leaves_what_its_pick_says(rt: HostRuntime) -> Result<(), Fail> {
     Ok(())
 }
 
-/// Sets a word with a stop at its nth writing step. Whether it was set, and whether reading works until the stop alone.
+/// Sets a word with a stop at its nth writing step. Whether it was set, and whether reading works
+/// until the stop alone.
 fn set_with_stop(meter: &mut Meter, region: &mut MemRegion, n: u64) -> (bool, bool) {
     meter.stop(n.max(1));
     let before = reads(region, meter, 0, 10);
@@ -109,5 +113,141 @@ fn a_plan_refuses_one_step(rt: HostRuntime) -> Result<(), Fail> {
     ] {
         assert_eq!(rt; meter.step(device, writing), passes, "device {device}");
     }
+    Ok(())
+}
+
+fn write_all<R: Region, P: Power>(
+    region: &mut R,
+    power: &mut P,
+    from: u32,
+    words: &[u64],
+) -> Result<(), DeviceFault> {
+    let room = region.len() as usize;
+    if words.len() <= room && from as usize <= room - words.len() {
+        write_words(region, power, from, words)
+    } else {
+        Err(DeviceFault)
+    }
+}
+
+/// Four words that a power refuses one step of, over a region of six.
+fn write_with_plan(alloc: Global, k: u64) -> Result<(bool, MemRegion), AllocError> {
+    let mut meter = Meter::calm(alloc);
+    meter.plan(7, true, k.max(1))?;
+    let mut region = MemRegion::new(alloc, 7, vec![in alloc; 9; 6]?)?;
+    let written = write_all(&mut region, &mut meter, 1, &[1, 2, 3, 4]).is_ok();
+    Ok((written, region))
+}
+
+// Of four words a plan at the third writes two; one behind the fourth writes all.
+#[test]
+fn a_plan_cuts_words_off(rt: HostRuntime) -> Result<(), Fail> {
+    for (k, written, left) in [
+        (1, false, [9, 9, 9, 9, 9, 9]),
+        (3, false, [9, 1, 2, 9, 9, 9]),
+        (4, false, [9, 1, 2, 3, 9, 9]),
+        (5, true, [9, 1, 2, 3, 4, 9]),
+    ] {
+        let (done, mut region) = write_with_plan(rt.alloc(), k)?;
+        assert_eq!(rt;
+            (done, region.words()),
+            (written, left.as_slice()),
+            "plan {k}"
+        );
+        region.crash(&mut Pick::new(0));
+        assert_eq!(rt;
+            region.words(),
+            [9; 6].as_slice(),
+            "not persisted, plan {k}"
+        );
+    }
+    Ok(())
+}
+
+/// The calls of a region, each with the direction of its step.
+#[derive(Clone, Copy, Debug)]
+enum Kind {
+    Read,
+    Write,
+    Persist,
+}
+
+fn call<R: Region, P: Power>(region: &mut R, power: &mut P, kind: Kind) -> bool {
+    match kind {
+        Kind::Read => reads(region, power, 0, 11),
+        Kind::Write => write(region, power, 1, 21).is_ok(),
+        Kind::Persist => region.persist(power).is_ok(),
+    }
+}
+
+// A refused call changes no word, neither what is read nor what is durable; the next one goes well.
+#[test]
+fn a_refused_call_leaves_the_words(rt: HostRuntime) -> Result<(), Fail> {
+    for (kind, writing, present, durable) in [
+        (Kind::Read, false, [11, 20], [10, 20]),
+        (Kind::Write, true, [11, 21], [10, 20]),
+        (Kind::Persist, true, [11, 20], [11, 20]),
+    ] {
+        let mut meter = Meter::calm(rt.alloc());
+        let mut region = MemRegion::new(rt.alloc(), 7, [10, 20].to_vec(rt.alloc())?)?;
+        assert!(rt; write(&mut region, &mut meter, 0, 11).is_ok());
+        meter.plan(7, writing, 1)?;
+        assert!(rt; !call(&mut region, &mut meter, kind), "{kind:?}");
+        assert_eq!(rt; region.words(), [11, 20].as_slice(), "{kind:?}");
+        assert!(rt; call(&mut region, &mut meter, kind), "{kind:?}");
+        assert_eq!(rt; region.words(), present.as_slice(), "{kind:?}");
+        region.crash(&mut Pick::new(0));
+        assert_eq!(rt; region.words(), durable.as_slice(), "{kind:?}");
+    }
+    Ok(())
+}
+
+/// Sets the one word of a region with a stop at its nth writing step. Whether it was set, whether
+/// the power is off, and the region.
+fn set_to_a_stop(alloc: Global, n: u64) -> Result<(bool, bool, MemRegion), AllocError> {
+    let mut meter = Meter::calm(alloc);
+    let mut region = MemRegion::new(alloc, 7, [10].to_vec(alloc)?)?;
+    let set = region.len() > 0
+        && set_word_with_stop(&mut region, &mut meter, n.max(1), 0, 12).is_ok();
+    Ok((set, meter.is_off(), region))
+}
+
+// A stop at the write leaves the word, one at the persist leaves it unsure, and one behind them
+// neither.
+#[test]
+fn a_stop_comes_within_the_call_or_behind_it(rt: HostRuntime) -> Result<(), Fail> {
+    for (n, was_set, off, present) in [
+        (1, false, true, 10),
+        (2, false, true, 12),
+        (3, true, false, 12),
+    ] {
+        let (set, is_off, region) = set_to_a_stop(rt.alloc(), n)?;
+        assert_eq!(rt;
+            (set, is_off, region.words()),
+            (was_set, off, [present].as_slice()),
+            "stop {n}"
+        );
+    }
+    Ok(())
+}
+
+fn set_metered<R: Region>(region: &mut R, meter: &mut Meter, at: u32, word: u64) -> bool {
+    at < region.len() && set_word_metered(region, meter, at, word).is_ok()
+}
+
+// A plan at the persist refuses one call, and the next one goes well; so it does for one of a list
+// of regions.
+#[test]
+fn a_plan_is_spent_by_one_call(rt: HostRuntime) -> Result<(), Fail> {
+    let mut meter = Meter::calm(rt.alloc());
+    let mut region = MemRegion::new(rt.alloc(), 7, [10].to_vec(rt.alloc())?)?;
+    meter.plan(7, true, 2)?;
+    assert!(rt; !set_metered(&mut region, &mut meter, 0, 4));
+    assert!(rt; set_metered(&mut region, &mut meter, 0, 5));
+    let mut regions = [region];
+    if regions[0].len() > 0 {
+        assert!(rt; set_word_of(&mut regions, &mut meter, 0, 0, 6).is_ok());
+    }
+    assert_eq!(rt; regions[0].words(), [6].as_slice());
     Ok(())
 }

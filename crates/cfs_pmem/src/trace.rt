@@ -1,49 +1,64 @@
-//! The steps that a power was asked for, which take no room at run time.
+//! What a power was asked and told so far, which takes no room at run time.
 ghost use Rattle.std.specs.Prelude.{◌≡◌, [], ◌∷◌};
 
 use std::marker::Model;
 use std::mem;
 use std::snapshot::Snapshot;
 
-/// The device numbers of the steps so far. Contracts alone read it, as a list, the newest first.
-#[derive(Drop)]
-pub struct Trace {
-    asked: Snapshot<Asked>,
+/// One thing that a power was asked or told.
+#[derive(Clone, Copy, Debug, PartialEq, Eq, Drop)]
+pub enum Asked {
+    /// A step of the device with this number: whether it writes, and whether it was allowed.
+    Step(u32, bool, bool),
+    /// A stop was set: the `n`th writing step from then on and all later steps are refused.
+    Stopped(u64),
+    /// A plan was set: the `k`th step of this device and direction from then on is refused.
+    Planned(u32, bool, u64),
+    /// The stop and all plans were ended.
+    Revived,
 }
 
-/// One step and those before it.
+/// All that a power was asked and told. Contracts alone read it, as a list of `Asked`, the newest
+/// first.
 #[derive(Drop)]
-enum Asked {
-    Nothing,
-    Then(u32, Snapshot<Asked>),
+pub struct Trace {
+    past: Snapshot<Past>,
+}
+
+/// One entry and those before it.
+#[derive(Drop)]
+enum Past {
+    Start,
+    Then(Asked, Snapshot<Past>),
 }
 
 impl Model for Trace {
-    ghost use Rattle.std.specs.Prelude.{List, ℕ};
+    ghost use Rattle.std.specs.Prelude.{List};
+    ghost use Rattle.cfs_pmem.specs.declared.trace.Asked.{Asked};
 
-    ghost Value = { List ℕ };
+    ghost Value = { List Asked };
 
-    ghost use Rattle.cfs_pmem.specs.Log.{devices_asked};
+    ghost use Rattle.cfs_pmem.specs.Log.{entries};
 
-    ghost view = { λ t. devices_asked t.asked.value };
+    ghost view = { λ t. entries t.past.value };
 }
 
 impl Trace {
-    /// No step so far.
+    /// Nothing so far.
     pub fn new() -> Trace
         ensures { result ≡ [] }
     {
         Trace {
-            asked: Snapshot::of(&Asked::Nothing),
+            past: Snapshot::of(&Past::Start),
         }
     }
 
-    /// Notes a step of this device.
+    /// Notes one more entry.
     #[inline]
-    pub fn push(&mut self, device: u32)
-        ensures { self.new ≡ device ∷ self.old }
+    pub fn push(&mut self, asked: Asked)
+        ensures { self.new ≡ asked ∷ self.old }
     {
-        let before = mem::replace(&mut self.asked, Snapshot::of(&Asked::Nothing));
-        self.asked = Snapshot::of(&Asked::Then(device, before));
+        let before = mem::replace(&mut self.past, Snapshot::of(&Past::Start));
+        self.past = Snapshot::of(&Past::Then(asked, before));
     }
 }

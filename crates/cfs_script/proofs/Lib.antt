@@ -1,6 +1,5 @@
-pub mod Cuts
-pub mod Numbers
-pub mod Rows
 pub mod Forms
+pub mod Lines
 pub mod Progress
-pub mod Shapes
+pub mod Printed
+pub mod Rounds

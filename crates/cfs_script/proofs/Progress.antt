@@ -1,14 +1,21 @@
 -- How far a script is read, line by line.
-use Rattle.std.proofs.Common.{◌≡◌, ◌≢◌, ℕ, zero, suc, ◌+◌, ◌≤◌, List, [], ◌∷◌, ◌++◌, length, take, arith, refl, sym, subst, ap, ◌∙◌, append_assoc}
-use Rattle.std.proofs.lemmas.List.{append-nil, length-append, length-take, length-take-le, take_at}
+use Rattle.std.proofs.Common.{◌≡◌, ◌≢◌, ℕ, zero, suc, ◌+◌, ◌≤◌, ◌<◌, ◌⊎◌, inl, inr, Bool, true, false, cond, ◌&&◌, List, [], ◌∷◌, ◌++◌, length, take, drop, Option, Some, None, arith, refl, sym, subst, ap, ◌∙◌, append_assoc}
+use Rattle.std.specs.Prelude.{IsTrue}
+use Rattle.std.specs.Option.{option_to_list}
+use Rattle.std.proofs.lemmas.List.{append-nil, length-append, length-take, length-take-le, take_at, take-append-drop}
+use Rattle.cfs_words.specs.Spelling.{Kind, Values, AreValues, SpellAll}
+use Rattle.cfs_script.specs.declared.command.Command.{Command}
 use Rattle.cfs_script.specs.declared.form.Form.{Form}
 use Rattle.cfs_script.specs.declared.line.Line.{Line}
-use Rattle.cfs_script.specs.Grammar.{lines_of, IsForm, AreForms}
-use Rattle.cfs_script.specs.Session.{Allows, Keeps}
 use Rattle.cfs_script.specs.declared.script_refusal.ScriptRefusal.{ScriptRefusal}
 use Rattle.cfs_script.specs.declared.script_refusal.ScriptRefusal.TheVariants as refusals
-use Rattle.cfs_script.specs.Script.{most_lines, IsScript, IsNoScript, IsFront, IsFirstOutside, IsNext, OnLine}
-use Rattle.cfs_script.proofs.Forms.{IsForm-one}
+use Rattle.cfs_script.specs.Table.{IsForm, IsFormValue, parts_of_form, kinds_of, values_of}
+use Rattle.cfs_script.specs.Session.{Seen, nothing, allows, after, Keeps}
+use Rattle.cfs_script.specs.Script.{most_lines, lines_of, is_passed_over, spoken, AreForms, forms_of, IsScript, IsNoScript, IsFront, IsFirstOutside, OnLine, Ascends, AreFormValues, IsLawful, IsLine, IsAllowed, after_line, IsNext}
+use Rattle.std.proofs.lemmas.Option.{none-some, same_Some}
+use Rattle.cfs_words.specs.Parts.{words_of}
+use Rattle.cfs_script.specs.Reading.{form_of}
+use Rattle.cfs_script.proofs.Forms.{IsForm-one, form_of-again}
 
 -- ---- lines and their texts
 
@@ -18,174 +25,278 @@ make n form = record { number = n; form = form }
 pub Line-one : (a b : Line) → a.number ≡ b.number → a.form ≡ b.form → a ≡ b
 Line-one a b e f = let same : make a.number a.form ≡ make b.number b.form = rw (e, f) refl in same
 
-AreForms-length : (n : ℕ) (lines : List Line) (texts : List (List ℕ)) → AreForms n lines texts → length lines ≡ length texts
-AreForms-length n [] [] h = refl
-AreForms-length n [] (text ∷ texts) h = absurd h
-AreForms-length n (line ∷ lines) [] h = absurd h
-AreForms-length n (line ∷ lines) (text ∷ texts) h = ap (λ (k : ℕ). suc k) (AreForms-length (n + 1) lines texts h.2)
+AreForms-append : (a b : List Line) (xs ys : List (ℕ × List ℕ)) → AreForms a xs → AreForms b ys → AreForms (a ++ b) (xs ++ ys)
+AreForms-append [] b [] ys h k = k
+AreForms-append [] b (x ∷ xs) ys h k = absurd h
+AreForms-append (line ∷ a) b [] ys h k = absurd h
+AreForms-append (line ∷ a) b (x ∷ xs) ys h k = (h.0, h.1, AreForms-append a b xs ys h.2 k)
 
-AreForms-push : (n : ℕ) (lines : List Line) (texts : List (List ℕ)) (line : Line) (text : List ℕ) → AreForms n lines texts →
-    line.number ≡ n + length lines → IsForm line.form text → AreForms n (lines ++ line ∷ []) (texts ++ text ∷ [])
-AreForms-push n [] [] line text h is f = let at : line.number ≡ n = omega arith in (at, f, tt)
-AreForms-push n [] (other ∷ texts) line text h is f = absurd h
-AreForms-push n (first ∷ lines) [] line text h is f = absurd h
-AreForms-push n (first ∷ lines) (other ∷ texts) line text h is f =
-    let at : line.number ≡ (n + 1) + length lines = omega arith in (h.0, h.1, AreForms-push (n + 1) lines texts line text h.2 at f)
-
-AreForms-one : (n : ℕ) (a b : List Line) (texts : List (List ℕ)) → AreForms n a texts → AreForms n b texts → a ≡ b
-AreForms-one n [] [] texts h k = refl
-AreForms-one n [] (other ∷ b) [] h k = absurd k
-AreForms-one n [] (other ∷ b) (text ∷ texts) h k = absurd h
-AreForms-one n (line ∷ a) b [] h k = absurd h
-AreForms-one n (line ∷ a) [] (text ∷ texts) h k = absurd k
-AreForms-one n (line ∷ a) (other ∷ b) (text ∷ texts) h k =
-    let first : line ≡ other = Line-one line other (h.0 ∙ sym k.0) (IsForm-one line.form other.form text h.1 k.1) in
-    let rest : a ≡ b = AreForms-one (n + 1) a b texts h.2 k.2 in
+pub AreForms-one : (a b : List Line) (xs : List (ℕ × List ℕ)) → AreForms a xs → AreForms b xs → a ≡ b
+AreForms-one [] [] xs h k = refl
+AreForms-one [] (other ∷ b) [] h k = absurd k
+AreForms-one [] (other ∷ b) (x ∷ xs) h k = absurd h
+AreForms-one (line ∷ a) b [] h k = absurd h
+AreForms-one (line ∷ a) [] (x ∷ xs) h k = absurd k
+AreForms-one (line ∷ a) (other ∷ b) (x ∷ xs) h k =
+    let first : line ≡ other = Line-one line other (h.0 ∙ sym k.0) (IsForm-one line.form other.form x.1 h.1 k.1) in
+    let rest : a ≡ b = AreForms-one a b xs h.2 k.2 in
     cc
 
-AreForms-take : (n i : ℕ) (lines : List Line) (texts : List (List ℕ)) → AreForms n lines texts → AreForms n (take i lines) (take i texts)
-AreForms-take n zero lines texts h = tt
-AreForms-take n (suc i) [] [] h = tt
-AreForms-take n (suc i) [] (text ∷ texts) h = absurd h
-AreForms-take n (suc i) (line ∷ lines) [] h = absurd h
-AreForms-take n (suc i) (line ∷ lines) (text ∷ texts) h = (h.0, h.1, AreForms-take (n + 1) i lines texts h.2)
+-- lines in two parts, by their texts
+record Split (lines : List Line) (xs ys : List (ℕ × List ℕ)) : Type 0 where
+  front : List Line
+  rest : List Line
+  whole : lines ≡ front ++ rest
+  fronts : AreForms front xs
+  rests : AreForms rest ys
 
--- one more line behind the same lines
-abbrev HasLast : List Line → List Line → List ℕ → Type 0
-HasLast others lines text = (line : Line) × (others ≡ lines ++ line ∷ []) × IsForm line.form text
+AreForms-split : (lines : List Line) (xs ys : List (ℕ × List ℕ)) → AreForms lines (xs ++ ys) → Split lines xs ys
+AreForms-split lines [] ys h = record { front = []; rest = lines; whole = refl; fronts = tt; rests = h }
+AreForms-split [] (x ∷ xs) ys h = absurd h
+AreForms-split (line ∷ lines) (x ∷ xs) ys h =
+    let s = AreForms-split lines xs ys h.2 in
+    record { front = line ∷ s.front; rest = s.rest; whole = ap (λ (ls : List Line). line ∷ ls) s.whole; fronts = (h.0, h.1, s.fronts); rests = s.rests }
 
-AreForms-last : (n : ℕ) (lines others : List Line) (front : List (List ℕ)) (text : List ℕ) → AreForms n lines front →
-    AreForms n others (front ++ text ∷ []) → HasLast others lines text
-AreForms-last n [] [] [] text h k = absurd k
-AreForms-last n [] (line ∷ []) [] text h k = (line, refl, k.1)
-AreForms-last n [] (line ∷ other ∷ others) [] text h k = absurd k.2
-AreForms-last n [] others (first ∷ front) text h k = absurd h
-AreForms-last n (line ∷ lines) others [] text h k = absurd h
-AreForms-last n (line ∷ lines) [] (first ∷ front) text h k = absurd k
-AreForms-last n (line ∷ lines) (other ∷ others) (first ∷ front) text h k =
-    let same : other ≡ line = Line-one other line (k.0 ∙ sym h.0) (IsForm-one other.form line.form first k.1 h.1) in
-    let rest = AreForms-last (n + 1) lines others front text h.2 k.2 in
-    let all : other ∷ others ≡ line ∷ (lines ++ rest.0 ∷ []) = let more = rest.1 in cc in
-    (rest.0, all, rest.2)
+spoken-append : (n : ℕ) (xs ys : List (List ℕ)) → spoken n (xs ++ ys) ≡ spoken n xs ++ spoken (n + length xs) ys
+spoken-append n [] ys = ap (λ (k : ℕ). spoken k ys) (omega arith)
+spoken-append n (x ∷ xs) ys = chosen (is_passed_over x) refl (spoken-append (n + 1) xs ys) where
+  moved : spoken ((n + 1) + length xs) ys ≡ spoken (n + length (x ∷ xs)) ys
+  moved = ap (λ (k : ℕ). spoken k ys) (omega arith)
+
+  chosen : (b : Bool) → is_passed_over x ≡ b → spoken (n + 1) (xs ++ ys) ≡ spoken (n + 1) xs ++ spoken ((n + 1) + length xs) ys →
+      spoken n (x ∷ (xs ++ ys)) ≡ spoken n (x ∷ xs) ++ spoken (n + length (x ∷ xs)) ys
+  chosen true e rest = rw e (rest ∙ ap (λ (zs : List (ℕ × List ℕ)). spoken (n + 1) xs ++ zs) moved)
+  chosen false e rest = rw e (ap (λ (zs : List (ℕ × List ℕ)). (n, x) ∷ zs) (rest ∙ ap (λ (zs : List (ℕ × List ℕ)). spoken (n + 1) xs ++ zs) moved))
 
 -- ---- the order of lines
 
-Keeps-push : (before lines : List Line) (line : Line) → Keeps before lines → Allows (before ++ lines) line.form → Keeps before (lines ++ line ∷ [])
-Keeps-push before [] line h a = (subst (λ (ls : List Line). Allows ls line.form) (append-nil before) a, tt)
-Keeps-push before (first ∷ lines) line h a =
-    (h.0, Keeps-push (before ++ first ∷ []) lines line h.1 (subst (λ (ls : List Line). Allows ls line.form) (sym (append_assoc before (first ∷ []) lines)) a))
+forms_of-append : (a b : List Line) → forms_of (a ++ b) ≡ forms_of a ++ forms_of b
+forms_of-append [] b = refl
+forms_of-append (line ∷ a) b = ap (λ (fs : List Form). line.form ∷ fs) (forms_of-append a b)
 
-Keeps-last : (before lines : List Line) (line : Line) → Keeps before (lines ++ line ∷ []) → Allows (before ++ lines) line.form
-Keeps-last before [] line h = subst (λ (ls : List Line). Allows ls line.form) (sym (append-nil before)) h.0
-Keeps-last before (first ∷ lines) line h =
-    subst (λ (ls : List Line). Allows ls line.form) (append_assoc before (first ∷ []) lines) (Keeps-last (before ++ first ∷ []) lines line h.1)
+abbrev pub all_seen : Seen → List Form → Seen
+all_seen seen [] = seen
+all_seen seen (form ∷ forms) = all_seen (after seen form) forms
 
-Keeps-take : (i : ℕ) (before lines : List Line) → Keeps before lines → Keeps before (take i lines)
-Keeps-take zero before lines h = tt
-Keeps-take (suc i) before [] h = tt
-Keeps-take (suc i) before (line ∷ lines) h = (h.0, Keeps-take i (before ++ line ∷ []) lines h.1)
+all_seen-append : (seen : Seen) (a b : List Form) → all_seen seen (a ++ b) ≡ all_seen (all_seen seen a) b
+all_seen-append seen [] b = refl
+all_seen-append seen (form ∷ a) b = all_seen-append (after seen form) a b
+
+Keeps-append : (command : Command) (seen : Seen) (a b : List Form) → Keeps command seen a → Keeps command (all_seen seen a) b → Keeps command seen (a ++ b)
+Keeps-append command seen [] b h k = k
+Keeps-append command seen (form ∷ a) b h k = (h.0, Keeps-append command (after seen form) a b h.1 k)
+
+Keeps-split : (command : Command) (seen : Seen) (a b : List Form) → Keeps command seen (a ++ b) → Keeps command seen a × Keeps command (all_seen seen a) b
+Keeps-split command seen [] b h = (tt, h)
+Keeps-split command seen (form ∷ a) b h = let s = Keeps-split command (after seen form) a b h.1 in ((h.0, s.0), s.1)
+
+-- ---- one text more
+
+-- what one text of this number gives
+one_spoken : (n : ℕ) (text : List ℕ) (line : Option Line) → IsLine n text line → AreForms (option_to_list line) (spoken n (text ∷ []))
+one_spoken n text None h = rw h tt
+one_spoken n text (Some line) h = rw h.0 (h.1, h.2, tt)
+
+-- lines of one text are one line or none
+record OneOf (lines : List Line) (n : ℕ) (text : List ℕ) : Type 0 where
+  line : Option Line
+  is : lines ≡ option_to_list line
+  spelled : IsLine n text line
+
+one_of : (lines : List Line) (n : ℕ) (text : List ℕ) → AreForms lines (spoken n (text ∷ [])) → OneOf lines n text
+one_of lines n text h = chosen (is_passed_over text) refl where
+  none : (ls : List Line) → is_passed_over text ≡ true → AreForms ls [] → OneOf ls n text
+  none [] e k = record { line = None; is = refl; spelled = e }
+  none (line ∷ ls) e k = absurd k
+
+  some : (ls : List Line) → is_passed_over text ≡ false → AreForms ls ((n, text) ∷ []) → OneOf ls n text
+  some [] e k = absurd k
+  some (line ∷ []) e k = record { line = Some line; is = refl; spelled = (e, k.0, k.1) }
+  some (line ∷ other ∷ ls) e k = absurd k.2
+
+  chosen : (b : Bool) → is_passed_over text ≡ b → OneOf lines n text
+  chosen true e = none lines e (rw e at h)
+  chosen false e = some lines e (rw e at h)
+
+one_kept : (command : Command) (seen : Seen) (line : Option Line) → IsAllowed command seen line → Keeps command seen (forms_of (option_to_list line))
+one_kept command seen None a = tt
+one_kept command seen (Some line) a = (a, tt)
+
+kept_one : (command : Command) (seen : Seen) (line : Option Line) → Keeps command seen (forms_of (option_to_list line)) → IsAllowed command seen line
+kept_one command seen None k = tt
+kept_one command seen (Some line) k = k.0
+
+one_seen : (seen : Seen) (line : Option Line) → all_seen seen (forms_of (option_to_list line)) ≡ after_line seen line
+one_seen seen None = refl
+one_seen seen (Some line) = refl
 
 -- ---- how far
 
--- these lines are read, and these texts are left
-pub record Progress (bytes : List ℕ) (lines : List Line) (left : List (List ℕ)) : Type 0 where
+-- so many texts are read as these lines, and these texts are left
+pub record Progress (command : Command) (bytes : List ℕ) (number : ℕ) (lines : List Line) (seen : Seen) (left : List (List ℕ)) : Type 0 where
   pub front : List (List ℕ)
   pub parts : lines_of bytes ≡ front ++ left
-  pub forms : AreForms 1 lines front
-  pub few : length lines ≤ most_lines
-  pub order : Keeps [] lines
+  pub count : number ≡ length front
+  pub few : number ≤ most_lines
+  pub forms : AreForms lines (spoken 1 front)
+  pub order : Keeps command nothing (forms_of lines)
+  pub seen_is : seen ≡ all_seen nothing (forms_of lines)
 
-pub progress_start : (bytes : List ℕ) → Progress bytes [] (lines_of bytes)
-progress_start bytes = record { front = []; parts = refl; forms = tt; few = omega arith; order = tt }
+pub progress_start : (command : Command) (bytes : List ℕ) → Progress command bytes 0 [] nothing (lines_of bytes)
+progress_start command bytes = record { front = []; parts = refl; count = refl; few = omega arith; forms = tt; order = tt; seen_is = refl }
 
-pub progress_step : (bytes : List ℕ) (lines : List Line) (text : List ℕ) (left : List (List ℕ)) (line : Line) →
-    Progress bytes lines (text ∷ left) → IsNext lines text line → Progress bytes (lines ++ line ∷ []) left
-progress_step bytes lines text left line p next = record {
-  front = p.front ++ text ∷ [];
-  parts = p.parts ∙ sym (append_assoc p.front (text ∷ []) left);
-  forms = AreForms-push 1 lines p.front line text p.forms (next.number ∙ omega arith) next.form;
-  few = let room = next.room in omega (arith, length-append lines (line ∷ []));
-  order = Keeps-push [] lines line p.order next.allowed;
-}
+pub progress_step : (command : Command) (bytes : List ℕ) (number : ℕ) (lines : List Line) (seen : Seen) (text : List ℕ) (left : List (List ℕ)) (line : Option Line) →
+    Progress command bytes number lines seen (text ∷ left) → IsNext command seen (number + 1) text line →
+    Progress command bytes (number + 1) (lines ++ option_to_list line) (after_line seen line) left
+progress_step command bytes number lines seen text left line p next =
+    let at : 1 + length p.front ≡ number + 1 = let count = p.count in omega arith in
+    let allowed : IsAllowed command (all_seen nothing (forms_of lines)) line = subst (λ (s : Seen). IsAllowed command s line) p.seen_is next.allowed in
+    let spelled : AreForms (option_to_list line) (spoken (1 + length p.front) (text ∷ [])) =
+    subst (λ (n : ℕ). AreForms (option_to_list line) (spoken n (text ∷ []))) (sym at) (one_spoken (number + 1) text line next.spelled) in
+    let both = forms_of-append lines (option_to_list line) in
+    record {
+      front = p.front ++ text ∷ [];
+      parts = p.parts ∙ sym (append_assoc p.front (text ∷ []) left);
+      count = let count = p.count in omega (arith, length-append p.front (text ∷ []));
+      few = next.room;
+      forms = subst (λ (xs : List (ℕ × List ℕ)). AreForms (lines ++ option_to_list line) xs) (sym (spoken-append 1 p.front (text ∷ [])))
+          (AreForms-append lines (option_to_list line) (spoken 1 p.front) (spoken (1 + length p.front) (text ∷ [])) p.forms spelled);
+      order = subst (λ (fs : List Form). Keeps command nothing fs) (sym both)
+          (Keeps-append command nothing (forms_of lines) (forms_of (option_to_list line)) p.order (one_kept command (all_seen nothing (forms_of lines)) line allowed));
+      seen_is = ap (λ (s : Seen). after_line s line) p.seen_is ∙ sym (one_seen (all_seen nothing (forms_of lines)) line)
+          ∙ sym (all_seen-append nothing (forms_of lines) (forms_of (option_to_list line))) ∙ ap (λ (fs : List Form). all_seen nothing fs) (sym both);
+    }
 
-progress_front : (bytes : List ℕ) (lines : List Line) (left : List (List ℕ)) → Progress bytes lines left → IsFront bytes lines
-progress_front bytes lines left p = record {
-  forms = rw (p.parts, take_at p.front left (length lines) (sym (AreForms-length 1 lines p.front p.forms))) p.forms;
+pub progress_end : (command : Command) (bytes : List ℕ) (number : ℕ) (lines : List Line) (seen : Seen) → Progress command bytes number lines seen [] → IsScript command bytes lines
+progress_end command bytes number lines seen p =
+    let whole : lines_of bytes ≡ p.front = p.parts ∙ append-nil p.front in
+    record {
+      forms = subst (λ (xs : List (List ℕ)). AreForms lines (spoken 1 xs)) (sym whole) p.forms;
+      few = let few = p.few in let count = p.count in omega (arith, ap (λ (xs : List (List ℕ)). length xs) whole);
+      order = p.order;
+    }
+
+pub IsScript-one : (command : Command) (bytes : List ℕ) (a b : List Line) → IsScript command bytes a → IsScript command bytes b → a ≡ b
+IsScript-one command bytes a b h k = AreForms-one a b (spoken 1 (lines_of bytes)) h.forms k.forms
+
+-- the first lines of a script are a front
+front_of : (command : Command) (bytes : List ℕ) (lines : List Line) (number : ℕ) → IsScript command bytes lines → number ≤ length (lines_of bytes) →
+    (front : List Line) × IsFront command bytes number front
+front_of command bytes lines number script le =
+    let texts = lines_of bytes in
+    let whole : take number texts ++ drop number texts ≡ texts = take-append-drop number texts in
+    let forms = subst (λ (xs : List (List ℕ)). AreForms lines (spoken 1 xs)) (sym whole) script.forms in
+    let parts = subst (λ (xs : List (ℕ × List ℕ)). AreForms lines xs) (spoken-append 1 (take number texts) (drop number texts)) forms in
+    let s = AreForms-split lines (spoken 1 (take number texts)) (spoken (1 + length (take number texts)) (drop number texts)) parts in
+    let order = subst (λ (ls : List Line). Keeps command nothing (forms_of ls)) s.whole script.order in
+    let kept = Keeps-split command nothing (forms_of s.front) (forms_of s.rest) (subst (λ (fs : List Form). Keeps command nothing fs) (forms_of-append s.front s.rest) order) in
+    (s.front, record { forms = s.fronts; few = let few = script.few in omega arith; order = kept.0 })
+
+refused_from_first : (command : Command) (bytes : List ℕ) (number : ℕ) → IsFirstOutside command bytes number → IsNoScript command bytes
+refused_from_first command bytes number first lines script =
+    let front = front_of command bytes lines number script first.within in first.outside front.0 front.1
+
+progress_front : (command : Command) (bytes : List ℕ) (number : ℕ) (lines : List Line) (seen : Seen) (left : List (List ℕ)) → Progress command bytes number lines seen left →
+    IsFront command bytes number lines
+progress_front command bytes number lines seen left p = record {
+  forms = rw (p.parts, take_at p.front left number (sym p.count)) p.forms;
   few = p.few;
   order = p.order;
 }
 
-all_read : (bytes : List ℕ) (lines : List Line) → Progress bytes lines [] → AreForms 1 lines (lines_of bytes)
-all_read bytes lines p = rw (p.parts, append-nil p.front) p.forms
-
-pub progress_end : (bytes : List ℕ) (lines : List Line) → Progress bytes lines [] → length lines ≢ 1 → IsScript bytes lines
-progress_end bytes lines p whole = record {
-  forms = all_read bytes lines p;
-  few = p.few;
-  session = record { order = p.order; whole = whole };
-}
-
-pub IsScript-one : (bytes : List ℕ) (a b : List Line) → IsScript bytes a → IsScript bytes b → a ≡ b
-IsScript-one bytes a b h k = AreForms-one 1 a b (lines_of bytes) h.forms k.forms
-
-IsFront-take : (bytes : List ℕ) (lines : List Line) (i : ℕ) → IsScript bytes lines → i ≤ length lines → IsFront bytes (take i lines)
-IsFront-take bytes lines i script le = record {
-  forms = rw (length-take-le i lines le) (AreForms-take 1 i lines (lines_of bytes) script.forms);
-  few = let few = script.few in omega (arith, length-take-le i lines le);
-  order = Keeps-take i [] lines script.session.order;
-}
-
--- where line number i is outside and there, the bytes are no script
-refused_from_first : (bytes : List ℕ) (i : ℕ) → IsFirstOutside bytes i → i ≤ length (lines_of bytes) → IsNoScript bytes
-refused_from_first bytes i first le lines script =
-    let long : i ≤ length lines = omega (arith, AreForms-length 1 lines (lines_of bytes) script.forms) in
-    first.outside (take i lines) (IsFront-take bytes lines i script long) (length-take-le i lines long)
-
-pub progress_outside : (bytes : List ℕ) (lines : List Line) (text : List ℕ) (left : List (List ℕ)) → Progress bytes lines (text ∷ left) →
-    ((line : Line) → IsNext lines text line → ⊥) → IsFirstOutside bytes (length lines + 1)
-progress_outside bytes lines text left p none = record {
-  before = (lines, progress_front bytes lines (text ∷ left) p, refl);
-  outside = λ others front long.
-      let counted = AreForms-length 1 lines p.front p.forms in
+pub progress_outside : (command : Command) (bytes : List ℕ) (number : ℕ) (lines : List Line) (seen : Seen) (text : List ℕ) (left : List (List ℕ)) →
+    Progress command bytes number lines seen (text ∷ left) → ((line : Option Line) → IsNext command seen (number + 1) text line → ⊥) →
+    IsFirstOutside command bytes (number + 1)
+progress_outside command bytes number lines seen text left p none = record {
+  within = let count = p.count in omega (arith, ap (λ (xs : List (List ℕ)). length xs) p.parts, length-append p.front (text ∷ left));
+  before = (number, refl, (lines, progress_front command bytes number lines seen (text ∷ left) p));
+  outside = λ others front.
       let split : lines_of bytes ≡ (p.front ++ text ∷ []) ++ left = p.parts ∙ sym (append_assoc p.front (text ∷ []) left) in
-      let taken : take (length others) (lines_of bytes) ≡ p.front ++ text ∷ [] =
-      rw split (take_at (p.front ++ text ∷ []) left (length others) (omega (arith, length-append p.front (text ∷ [])))) in
-      let last = AreForms-last 1 lines others p.front text p.forms (subst (λ (texts : List (List ℕ)). AreForms 1 others texts) taken front.forms) in
-      let order : Keeps [] (lines ++ last.0 ∷ []) = subst (λ (ls : List Line). Keeps [] ls) last.1 front.order in
-      let few : length others ≤ most_lines = front.few in
-      none (make (length lines + 1) last.0.form) (record { number = refl; form = last.2; room = omega arith; allowed = Keeps-last [] lines last.0 order });
+      let counted : number + 1 ≡ length (p.front ++ text ∷ []) = let count = p.count in omega (arith, length-append p.front (text ∷ [])) in
+      let taken : take (number + 1) (lines_of bytes) ≡ p.front ++ text ∷ [] = rw split (take_at (p.front ++ text ∷ []) left (number + 1) (sym counted)) in
+      let forms = subst (λ (xs : List (List ℕ)). AreForms others (spoken 1 xs)) taken front.forms in
+      let parts = subst (λ (xs : List (ℕ × List ℕ)). AreForms others xs) (spoken-append 1 p.front (text ∷ [])) forms in
+      let s = AreForms-split others (spoken 1 p.front) (spoken (1 + length p.front) (text ∷ [])) parts in
+      let same : s.front ≡ lines = AreForms-one s.front lines (spoken 1 p.front) s.fronts p.forms in
+      let at : 1 + length p.front ≡ number + 1 = let count = p.count in omega arith in
+      let one = one_of s.rest (number + 1) text (subst (λ (n : ℕ). AreForms s.rest (spoken n (text ∷ []))) at s.rests) in
+      let order = subst (λ (fs : List Form). Keeps command nothing fs) (ap (λ (ls : List Line). forms_of ls) s.whole ∙ forms_of-append s.front s.rest) front.order in
+      let kept = Keeps-split command nothing (forms_of s.front) (forms_of s.rest) order in
+      let seen_was : all_seen nothing (forms_of s.front) ≡ seen = ap (λ (ls : List Line). all_seen nothing (forms_of ls)) same ∙ sym p.seen_is in
+      let last : Keeps command seen (forms_of (option_to_list one.line)) =
+      subst (λ (ls : List Line). Keeps command seen (forms_of ls)) one.is (subst (λ (st : Seen). Keeps command st (forms_of s.rest)) seen_was kept.1) in
+      none one.line (record { room = front.few; spelled = one.spelled; allowed = kept_one command seen one.line last });
 }
 
-pub progress_refused : (bytes : List ℕ) (lines : List Line) (text : List ℕ) (left : List (List ℕ)) → Progress bytes lines (text ∷ left) →
-    ((line : Line) → IsNext lines text line → ⊥) → IsNoScript bytes
-progress_refused bytes lines text left p none =
-    let there : length lines + 1 ≤ length (lines_of bytes) =
-    omega (arith, AreForms-length 1 lines p.front p.forms, ap length p.parts, length-append p.front (text ∷ left)) in
-    refused_from_first bytes (length lines + 1) (progress_outside bytes lines text left p none) there
+pub progress_refused : (command : Command) (bytes : List ℕ) (number : ℕ) (lines : List Line) (seen : Seen) (text : List ℕ) (left : List (List ℕ)) →
+    Progress command bytes number lines seen (text ∷ left) → ((line : Option Line) → IsNext command seen (number + 1) text line → ⊥) → IsNoScript command bytes
+progress_refused command bytes number lines seen text left p none =
+    refused_from_first command bytes (number + 1) (progress_outside command bytes number lines seen text left p none)
 
-pub progress_lone : (bytes : List ℕ) (lines : List Line) → Progress bytes lines [] → length lines ≡ 1 → IsFirstOutside bytes 2
-progress_lone bytes lines p one = record {
-  before = (lines, progress_front bytes lines [] p, omega arith);
-  outside = λ others front two.
-      omega (arith, AreForms-length 1 lines (lines_of bytes) (all_read bytes lines p), AreForms-length 1 others _ front.forms, length-take (length others) (lines_of bytes));
-}
-
-pub progress_only : (bytes : List ℕ) (lines : List Line) → Progress bytes lines [] → (others : List Line) → IsScript bytes others → others ≡ lines
-progress_only bytes lines p others script = AreForms-one 1 others lines (lines_of bytes) script.forms (all_read bytes lines p)
-
-pub progress_lone-refused : (bytes : List ℕ) (lines : List Line) → Progress bytes lines [] → length lines ≡ 1 → IsNoScript bytes
-progress_lone-refused bytes lines p one others script =
-    let same : others ≡ lines = progress_only bytes lines p others script in
-    script.session.whole (ap (λ (ls : List Line). length ls) same ∙ one)
+pub progress_only : (command : Command) (bytes : List ℕ) (number : ℕ) (lines : List Line) (seen : Seen) → Progress command bytes number lines seen [] →
+    (others : List Line) → IsScript command bytes others → others ≡ lines
+progress_only command bytes number lines seen p others script = IsScript-one command bytes others lines script (progress_end command bytes number lines seen p)
 
 -- ---- a refusal of the next line
 
-pub next_refused : (bytes : List ℕ) (lines : List Line) (text : List ℕ) (left : List (List ℕ)) (refusal : ScriptRefusal) → Progress bytes lines (text ∷ left) →
-    OnLine refusal (λ _. (line : Line) → IsNext lines text line → ⊥) → OnLine refusal (λ _. IsNoScript bytes)
-next_refused bytes lines text left (refusals.Line number) p none = progress_refused bytes lines text left p none
-next_refused bytes lines text left refusals.NoMemory p none = tt
+pub no_next : (command : Command) (seen : Seen) (number : ℕ) (text : List ℕ) → is_passed_over text ≡ false → form_of (words_of text) ≡ None →
+    (line : Option Line) → IsNext command seen number text line → ⊥
+no_next command seen number text other none None next = let both : true ≡ false = sym next.spelled ∙ other in cc
+no_next command seen number text other none (Some line) next =
+    none-some _ (sym none ∙ form_of-again line.form (words_of text) next.spelled.2)
 
-pub next_first : (bytes : List ℕ) (lines : List Line) (text : List ℕ) (left : List (List ℕ)) (refusal : ScriptRefusal) → Progress bytes lines (text ∷ left) →
-    OnLine refusal (λ number. number ≡ length lines + 1) → OnLine refusal (λ _. (line : Line) → IsNext lines text line → ⊥) → OnLine refusal (IsFirstOutside bytes)
-next_first bytes lines text left (refusals.Line number) p is none = rw is (progress_outside bytes lines text left p none)
-next_first bytes lines text left refusals.NoMemory p is none = tt
+pub not_allowed : (command : Command) (seen : Seen) (number : ℕ) (text : List ℕ) (form : Form) → is_passed_over text ≡ false →
+    form_of (words_of text) ≡ Some form → allows command seen form ≡ false → (line : Option Line) → IsNext command seen number text line → ⊥
+not_allowed command seen number text form other is refused None next = let both : true ≡ false = sym next.spelled ∙ other in cc
+not_allowed command seen number text form other is refused (Some line) next =
+    let same : line.form ≡ form = same_Some _ _ (sym (form_of-again line.form (words_of text) next.spelled.2) ∙ is) in
+    let both : true ≡ false = sym next.allowed ∙ ap (λ (f : Form). allows command seen f) same ∙ refused in
+    cc
+
+pub next_refused : (command : Command) (bytes : List ℕ) (number : ℕ) (lines : List Line) (seen : Seen) (text : List ℕ) (left : List (List ℕ)) (refusal : ScriptRefusal) →
+    Progress command bytes number lines seen (text ∷ left) →
+    OnLine refusal (λ _. (line : Option Line) → IsNext command seen (number + 1) text line → ⊥) → OnLine refusal (λ _. IsNoScript command bytes)
+next_refused command bytes number lines seen text left (refusals.Line n) p none = progress_refused command bytes number lines seen text left p none
+next_refused command bytes number lines seen text left refusals.NoMemory p none = tt
+
+pub next_first : (command : Command) (bytes : List ℕ) (number : ℕ) (lines : List Line) (seen : Seen) (text : List ℕ) (left : List (List ℕ)) (refusal : ScriptRefusal) →
+    Progress command bytes number lines seen (text ∷ left) → OnLine refusal (λ n. n ≡ number + 1) →
+    OnLine refusal (λ _. (line : Option Line) → IsNext command seen (number + 1) text line → ⊥) → OnLine refusal (IsFirstOutside command bytes)
+next_first command bytes number lines seen text left (refusals.Line n) p is none = rw is (progress_outside command bytes number lines seen text left p none)
+next_first command bytes number lines seen text left refusals.NoMemory p is none = tt
+
+-- ---- what was read keeps the rules
+
+SpellAll-values : (kinds : List Kind) (values : Values kinds) (words : List (List ℕ)) → SpellAll kinds values words → AreValues kinds values
+SpellAll-values [] values words h = tt
+SpellAll-values (kind ∷ kinds) values words h = (h.1.1.1.is_value, SpellAll-values kinds values.1 h.1.0 h.1.1.2)
+
+spelled_values : (lines : List Line) (xs : List (ℕ × List ℕ)) → AreForms lines xs → AreFormValues lines
+spelled_values [] xs h = tt
+spelled_values (line ∷ lines) [] h = absurd h
+spelled_values (line ∷ lines) (x ∷ xs) h =
+    (SpellAll-values (kinds_of (parts_of_form line.form)) (values_of (parts_of_form line.form)) _ h.1, spelled_values lines xs h.2)
+
+Ascends-from : (n m : ℕ) (lines : List Line) → m ≤ n → Ascends n lines → Ascends m lines
+Ascends-from n m [] le h = tt
+Ascends-from n m (line ∷ lines) le h = let first = h.0 in (omega arith, h.1, h.2)
+
+spoken_ascends : (n : ℕ) (lines : List Line) (texts : List (List ℕ)) → n + length texts ≤ most_lines + 1 → AreForms lines (spoken n texts) → Ascends n lines
+spoken_ascends n [] texts le h = tt
+spoken_ascends n (line ∷ lines) [] le h = absurd h
+spoken_ascends n (line ∷ lines) (text ∷ texts) le h =
+    chosen (is_passed_over text) refl (spoken_ascends (n + 1) (line ∷ lines) texts (omega arith)) (spoken_ascends (n + 1) lines texts (omega arith)) where
+      chosen : (b : Bool) → is_passed_over text ≡ b → (AreForms (line ∷ lines) (spoken (n + 1) texts) → Ascends (n + 1) (line ∷ lines)) →
+          (AreForms lines (spoken (n + 1) texts) → Ascends (n + 1) lines) → Ascends n (line ∷ lines)
+      chosen true e all rest = Ascends-from (n + 1) n (line ∷ lines) (omega arith) (all (rw e at h))
+      chosen false e all rest =
+          let k : AreForms (line ∷ lines) ((n, text) ∷ spoken (n + 1) texts) = rw e at h in
+          let is : line.number ≡ n = k.0 in
+          (omega arith, omega arith, subst (λ (m : ℕ). Ascends (m + 1) lines) (sym is) (rest k.2))
+
+pub script_lawful : (command : Command) (bytes : List ℕ) (lines : List Line) → IsScript command bytes lines → IsLawful command lines
+script_lawful command bytes lines script = record {
+  values = spelled_values lines (spoken 1 (lines_of bytes)) script.forms;
+  numbers = spoken_ascends 1 lines (lines_of bytes) (let few = script.few in omega arith) script.forms;
+  order = script.order;
+}

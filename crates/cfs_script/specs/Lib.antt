@@ -1,4 +1,5 @@
-pub mod Grammar
+pub mod Table
 pub mod Session
 pub mod Script
+pub mod Printing
 pub mod Reading

@@ -1,28 +1,31 @@
-//! The grammar of scripts: which bytes are a script, and the lines that they spell.
+//! The grammar of scripts: which bytes are a script of `play` or of `run`, and the lines that they
+//! spell.
 //!
-//! The grammar is a relation between bytes and lines, in specs/Grammar.antt and specs/Script.antt.
-//! `read_play` accepts exactly what it relates to some lines.
+//! One table of forms (specs/Table.antt) gives the words of each form; what a word spells is
+//! `cfs_words`' one definition. `read_play` and `read_run` accept exactly what the grammar
+//! (specs/Script.antt) relates to some lines.
 #![tactic(auto)]
 
-mod cut;
+mod command;
 mod form;
 mod line;
-mod line_refusal;
-mod number;
-mod payload;
-mod play;
+mod order;
+mod order_reading;
+mod print;
+mod read;
 mod reading;
 mod script;
 mod script_refusal;
-mod session;
+mod seen;
 mod texts;
 mod verb;
-mod words;
+mod verb_reading;
 
-pub use form::{CALLERS, Form, LARGEST_NUMBER, LAST_OFFSET, MOST_BYTES};
+pub use command::Command;
+pub use form::{CALLERS, Form};
 pub use line::Line;
-pub use number::number_in;
-pub use play::read_play;
+pub use print::{print_and_read_play, print_and_read_run, print_script};
+pub use read::{read_play, read_run};
 pub use script::{MOST_LINES, Script};
 pub use script_refusal::ScriptRefusal;
 

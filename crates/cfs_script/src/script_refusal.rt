@@ -5,28 +5,19 @@ ghost use Rattle.cfs_script.specs.declared.script_refusal.ScriptRefusal.TheVaria
 
 use cfs_file::NoMemory;
 use std::alloc::AllocFailed;
-use std::fmt;
+use thiserror::Error;
 
 /// Why no script was read.
-#[derive(Clone, Copy, Debug, PartialEq, Eq)]
+#[derive(Clone, Copy, Debug, PartialEq, Eq, Error)]
 pub enum ScriptRefusal {
-    /// The number of the first line that no script has in its place, from 1. A line that is missing
-    /// at the end, or one past the most lines, counts too.
+    /// The number of the first line that no script has in its place, from 1. A line past the most
+    /// lines counts too.
+    #[error("line {0} is outside the grammar")]
     Line(u64),
     /// Want of memory.
+    #[error("out of memory")]
     NoMemory,
 }
-
-impl fmt::Display for ScriptRefusal {
-    fn fmt<W: fmt::Write>(&self, f: &mut fmt::Formatter<W>) -> fmt::Result {
-        match self {
-            ScriptRefusal::Line(number) => write!(f, "line {number} is outside the grammar"),
-            ScriptRefusal::NoMemory => write!(f, "out of memory"),
-        }
-    }
-}
-
-impl std::error::Error for ScriptRefusal {}
 
 impl From<NoMemory> for ScriptRefusal {
     ghost from_gives = { λ _ e. e ≡ refusals.NoMemory };

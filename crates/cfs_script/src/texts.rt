@@ -2,9 +2,9 @@
 
 ghost use Rattle.std.specs.Prelude.{◌≡◌, ◌<◌, ◌∷◌, length};
 ghost use Rattle.std.specs.Iterator.{YieldsFirstRef, item_count};
-ghost use Rattle.cfs_script.specs.Grammar.{lines_of};
+ghost use Rattle.cfs_script.specs.Script.{lines_of};
 
-use crate::cut::cut;
+use cfs_words::cut;
 use std::marker::Model;
 
 /// The lines that are left, without the byte that ends each. Contracts see their list.
@@ -15,7 +15,7 @@ pub(crate) struct Texts<'a> {
 
 impl<'a> Model for Texts<'a> {
     ghost use Rattle.std.specs.Prelude.{List, ℕ};
-    ghost use Rattle.cfs_script.specs.Grammar.{lines_of};
+    ghost use Rattle.cfs_script.specs.Script.{lines_of};
 
     ghost Value = { List (List ℕ) };
 

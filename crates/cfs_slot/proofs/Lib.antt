@@ -1,5 +1,9 @@
 pub mod EntryLemmas
+pub mod MeteredLemmas
 pub mod PayloadLemmas
 pub mod SettingLemmas
+pub mod ReadLemmas
+pub mod SlotsLemmas
 pub mod StagedLemmas
+pub mod TailLemmas
 pub mod WritingLemmas

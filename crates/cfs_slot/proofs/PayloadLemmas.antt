@@ -8,7 +8,7 @@ use Rattle.std.specs.Int.{w64, to_le_bytes}
 use Rattle.byteorder.specs.Endian.{little_from, little_number}
 use Rattle.cfs_slot.specs.Staging.{words_for, HoldsPayload}
 use Rattle.cfs_slot.specs.Words.{bytes_of}
-use Rattle.cfs_slot.specs.Writing.{payload_words}
+use Rattle.cfs_slot.specs.Operations.{payload_words}
 
 past : (bytes : List ℕ) (i : ℕ) → length bytes ≤ i → slice_index bytes i ≡ 0
 past [] i l = refl

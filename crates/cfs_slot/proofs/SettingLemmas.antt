@@ -1,8 +1,10 @@
 -- What a slot keeps in each image where a word was set, or may have been.
-use Rattle.std.proofs.Common.{ℕ, ◌<◌, ◌≤◌, ◌≡◌, ◌≢◌, ◌∙◌, List, [], ◌∷◌, drop, get_or, refl, sym, subst, arith, ⊎_elim, get_or-set_other}
+use Rattle.std.proofs.Common.{ℕ, ◌<◌, ◌≤◌, ◌≡◌, ◌≢◌, ◌∙◌, List, [], ◌∷◌, length, drop, get_or, refl, sym, ap, subst, arith, ⊎_elim, get_or-set_same, get_or-set_other, Bool, Result, Ok, Err}
 use Rattle.std.proofs.Math.ListN.{set}
 use Rattle.std.proofs.lemmas.List.{drop-set-lt, set-set}
 use Rattle.cfs_pmem.specs.Images.{Seen, WordStep, words_of, AllImages, IsSetFrom}
+use Rattle.cfs_pmem.specs.declared.trace.Asked.{Asked}
+use Rattle.cfs_pmem.specs.WordOps.{SetsWord}
 use Rattle.cfs_pmem.proofs.ImageLemmas.{now_is_image}
 use Rattle.cfs_slot.specs.Words.{gate_of, mark_of, IsClosed, IsWhole, IsWholeButOffset}
 
@@ -73,3 +75,43 @@ pub marked_gate : (old new : Seen WordStep) (word : ℕ) → AllImages new (IsSe
 marked_gate old new word from all =
     set_keeps (λ image. mark_of image ≤ 1) old new 0 word from all
     (λ image p. subst (λ v. v ≤ 1) (sym (get_or-set_other image 0 1 word 0 (omega arith))) p)
+
+-- a word other than the one that was set
+pub word_kept : {T E : Type 0} {obeys : Bool} {at word : ℕ} {asked_old asked_new : List Asked} {old new : Seen WordStep} (k : ℕ) (result : Result T E) → k ≢ at
+    → SetsWord obeys at word result asked_old old asked_new new → get_or (words_of new) k 0 ≡ get_or (words_of old) k 0
+word_kept {T} {E} {obeys} {at} {word} {asked_old} {asked_new} {old} {new} k (Ok t) ne h =
+    ap (λ (s : Seen WordStep). get_or (words_of s) k 0) h.ok ∙ get_or-set_other (words_of old) at k word 0 ne
+word_kept {T} {E} {obeys} {at} {word} {asked_old} {asked_new} {old} {new} k (Err e) ne h =
+    ⊎_elim (λ f. ap (λ (s : Seen WordStep). get_or (words_of s) k 0) f)
+    (λ f. ap (λ (s : Seen WordStep). get_or (words_of s) k 0) f ∙ get_or-set_other (words_of old) at k word 0 ne) h.err
+
+-- what a call answers that sets a word alone
+pub set_answers_ok : {T E U F : Type 0} {obeys : Bool} {at word : ℕ} {t : T} {asked_old asked_new : List Asked} {old new there : Seen WordStep} (u : U) → there ≡ new
+    → SetsWord {T = T} {E = E} obeys at word (Ok t) asked_old old asked_new new → SetsWord {T = U} {E = F} obeys at word (Ok u) asked_old old asked_new there
+set_answers_ok {T} {E} {U} {F} {obeys} {at} {word} {t} {asked_old} {asked_new} {old} {new} {there} u e h =
+    subst (λ s. SetsWord {T = U} {E = F} obeys at word (Ok u) asked_old old asked_new s) (sym e)
+    record {
+      ok = h.ok;
+      sure = h.sure;
+      err = tt;
+      size = h.size;
+      does = λ o. record { all = (h.does o).all; front = tt };
+      moments = h.moments;
+    }
+
+pub set_answers_err : {T E U F : Type 0} {obeys : Bool} {at word : ℕ} {e : E} {asked_old asked_new : List Asked} {old new : Seen WordStep} (f : F)
+    → SetsWord {T = T} {E = E} obeys at word (Err e) asked_old old asked_new new → SetsWord {T = U} {E = F} obeys at word (Err f) asked_old old asked_new new
+set_answers_err f h = record {
+  ok = tt;
+  sure = tt;
+  err = h.err;
+  size = h.size;
+  does = λ o. record { all = tt; front = (h.does o).front };
+  moments = h.moments;
+}
+
+-- the gate was closed
+pub closed_set : {T E : Type 0} {obeys : Bool} {t : T} {asked_old asked_new : List Asked} {old new : Seen WordStep} → 0 < length (words_of old)
+    → SetsWord {T = T} {E = E} obeys 0 0 (Ok t) asked_old old asked_new new → AllImages new IsClosed
+closed_set {T} {E} {obeys} {t} {asked_old} {asked_new} {old} {new} some h = λ image i.
+    ap (λ ws. gate_of ws) (h.sure image i) ∙ ap (λ (s : Seen WordStep). gate_of (words_of s)) h.ok ∙ get_or-set_same (words_of old) 0 0 0 some

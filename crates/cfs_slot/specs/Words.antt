@@ -1,5 +1,5 @@
--- The words of a slot by name, and the request that they stand for.
-use Rattle.std.specs.Prelude.{ℕ, ◌/◌, ◌%◌, ◌≡◌, ◌==◌, Bool, not, ◌&&◌, Option, Some, None, List, take, drop, if◌then◌else◌}
+-- The words of a slot by name, and the entry that they stand for.
+use Rattle.std.specs.Prelude.{ℕ, ◌+◌, ◌/◌, ◌%◌, ◌^◌, ◌≡◌, ◌==◌, Bool, not, ◌&&◌, Option, Some, None, List, ◌∷◌, take, drop, if◌then◌else◌}
 use Rattle.std.specs.Int.{w64, to_le_bytes}
 use Rattle.std.specs.List.{flat_map}
 use Rattle.std.proofs.Math.ListN.{get_or, set}
@@ -21,22 +21,33 @@ ino_of words = get_or words 2 0
 abbrev pub offset_of : List ℕ → ℕ
 offset_of words = get_or words 3 0
 
--- one word has the kind, times 65,536, and the payload's length
+-- Word 4 has the kind, times 65,536: 1 of a write that one slot holds, 2 of a truncate, 3 of the head of a longer
+-- write and 4 of its tails.
 abbrev pub kind_of : List ℕ → ℕ
-kind_of words = get_or words 4 0 / 65536
+kind_of words = get_or words 4 0 % 2 ^ 32 / 65536
 
+-- It also has the length of the payload, of a head that of the whole write less one.
 abbrev pub count_of : List ℕ → ℕ
-count_of words = get_or words 4 0 % 65536
+count_of words = if kind_of words == 3 then get_or words 4 0 % 65536 + 1 else get_or words 4 0 % 65536
+
+-- And of a head a bit for the number of each tail, from 2^32 on.
+abbrev pub tails_of : List ℕ → ℕ
+tails_of words = get_or words 4 0 / 2 ^ 32
 
 abbrev pub grant_of : List ℕ → ℕ
 grant_of words = get_or words 5 0
 
--- the bytes of the payload's words, the first byte of a word lowest
+-- the bytes of words, the first byte of a word lowest
 abbrev pub bytes_of : List ℕ → List ℕ
 bytes_of words = flat_map (to_le_bytes w64) words
 
-abbrev pub payload_of : List ℕ → List ℕ
-payload_of words = take (count_of words) (bytes_of (drop 6 words))
+-- the bytes of a slot's 512 words of payload
+abbrev pub area_of : List ℕ → List ℕ
+area_of words = bytes_of (drop 6 words)
+
+-- the payload of a head and its tails, whose words are listed in order; an entry of one slot has no tails
+abbrev pub payload_of : List ℕ → List (List ℕ) → List ℕ
+payload_of words tails = take (count_of words) (flat_map area_of (words ∷ tails))
 
 abbrev pub found_of : List ℕ → Found
 found_of words = record {
@@ -47,11 +58,12 @@ found_of words = record {
   kind = kind_of words;
   count = count_of words;
   grant = grant_of words;
+  tails = tails_of words;
 }
 
 -- a write of its payload at its offset, or a truncate to its offset
-abbrev pub request_of : List ℕ → Request
-request_of words = if kind_of words == 2 then Truncate (offset_of words) else Write (offset_of words) (payload_of words)
+abbrev pub request_of : List ℕ → List (List ℕ) → Request
+request_of words tails = if kind_of words == 2 then Truncate (offset_of words) else Write (offset_of words) (payload_of words tails)
 
 -- the same at another offset
 abbrev pub with_offset : ℕ → Request → Request
@@ -70,8 +82,8 @@ abbrev pub is_live : ℕ → List ℕ → Bool
 is_live ino words = not (gate_of words == 0) && not (mark_of words == 1) && (ino_of words == ino)
 
 -- the place and the request of the file's live entry, if it is one
-abbrev pub live_entry : ℕ → List ℕ → Option (ℕ × Request)
-live_entry ino words = if is_live ino words then Some (gate_of words, request_of words) else None
+abbrev pub live_entry : ℕ → List ℕ → List (List ℕ) → Option (ℕ × Request)
+live_entry ino words tails = if is_live ino words then Some (gate_of words, request_of words tails) else None
 
 -- What a slot keeps in each image, beside its gate.
 

@@ -1,29 +1,41 @@
--- Words that are written one by one behind a closed gate.
-use Rattle.std.specs.Prelude.{ℕ, zero, suc, ◌+◌, ◌<◌, ◌≤◌, ◌≡◌, List, [], ◌∷◌, ◌++◌, length, drop, replicate}
+-- A slot that is written behind its closed gate.
+use Rattle.std.specs.Prelude.{ℕ, ◌≡◌, Bool, IsTrue, List, ◌++◌, length, Result, OnOk, OnErr}
 use Rattle.std.proofs.Math.ListN.{get_or}
-use Rattle.byteorder.specs.Endian.{little_number}
-use Rattle.cfs_pmem.specs.Images.{Seen, WordStep, words_of, IsImage}
+use Rattle.cfs_pmem.specs.declared.trace.Asked.{Asked}
+use Rattle.cfs_pmem.specs.Images.{Seen, WordStep, words_of, IsImage, IsSure}
 use Rattle.cfs_pmem.specs.Moments.{Moments}
-use Rattle.cfs_slot.specs.Words.{IsClosed}
+use Rattle.cfs_pmem.specs.Operations.{after_all, all_allowed}
+use Rattle.cfs_pmem.specs.WordOps.{WordOp, word_asks, word_done, DoesWords, WordsStopIn}
+use Rattle.cfs_slot.specs.Staging.{HoldsPayload}
+use Rattle.cfs_slot.specs.Words.{gate_of, mark_of, ino_of, offset_of, grant_of, IsClosed}
 
--- n words of eight bytes each, the first byte lowest; past the last byte stand zero bytes
-abbrev pub payload_words : ℕ → List ℕ → List ℕ
-payload_words zero bytes = []
-payload_words (suc n) bytes = little_number 8 bytes ∷ payload_words n (drop 8 bytes)
-
--- The first k of these words were written, from a place on, by a step each.
-pub record HasWritten (from : ℕ) (words : List ℕ) (k : ℕ) (steps_old : List ℕ) (old : Seen WordStep) (steps_new : List ℕ) (new : Seen WordStep) : Type 0 where
-  pub moments : Moments IsImage IsClosed steps_old old steps_new new
-  pub made : steps_new ≡ replicate k old.device ++ steps_old
+-- A call writes a slot by these operations, the last of which persists it.
+pub record WritesSlot {T E : Type 0} (obeys_power : Bool) (ops : List WordOp) (result : Result T E)
+    (asked_old : List Asked) (old : Seen WordStep) (asked_new : List Asked) (new : Seen WordStep) : Type 0 where
+  pub ok : OnOk result (new ≡ after_all word_done ops old)
+  -- what was written stands in every image
+  pub sure : OnOk result (IsSure new)
+  -- it stopped at one of them, which failed
+  pub stopped : OnErr result (WordsStopIn ops old new)
   pub size : length (words_of new) ≡ length (words_of old)
-  pub written : (i : ℕ) → i < k → get_or (words_of new) (from + i) 0 ≡ get_or words i 0
-  pub below : (i : ℕ) → i < from → get_or (words_of new) i 0 ≡ get_or (words_of old) i 0
+  pub does : IsTrue obeys_power → DoesWords ops result asked_old old asked_new new
+  -- at each moment the gate is closed in every image
+  pub moments : Moments IsImage IsClosed asked_old old asked_new new
 
--- A call that was to make n steps stopped at one of them, which failed.
-pub record HasStopped (n : ℕ) (steps_old : List ℕ) (old : Seen WordStep) (steps_new : List ℕ) (new : Seen WordStep) : Type 0 where
-  pub moments : Moments IsImage IsClosed steps_old old steps_new new
-  pub count : ℕ
-  pub some : 0 < count
-  pub most : count ≤ n
-  pub made : steps_new ≡ replicate count old.device ++ steps_old
+-- These operations were all done, and at each moment of them the gate is closed in every image.
+pub record HasDone (obeys_power : Bool) (ops : List WordOp)
+    (asked_old : List Asked) (old : Seen WordStep) (asked_new : List Asked) (new : Seen WordStep) : Type 0 where
+  pub state : new ≡ after_all word_done ops old
+  pub asked : IsTrue obeys_power → asked_new ≡ all_allowed (word_asks old.device) ops ++ asked_old
   pub size : length (words_of new) ≡ length (words_of old)
+  pub moments : Moments IsImage IsClosed asked_old old asked_new new
+
+-- What stands in a slot that was written: word 4 is the kind's.
+pub record HoldsFields (ino offset kind grant : ℕ) (payload words : List ℕ) : Type 0 where
+  pub gate_is : gate_of words ≡ 0
+  pub mark_is : mark_of words ≡ 0
+  pub ino_is : ino_of words ≡ ino
+  pub offset_is : offset_of words ≡ offset
+  pub kind_is : get_or words 4 0 ≡ kind
+  pub grant_is : grant_of words ≡ grant
+  pub payload_is : HoldsPayload payload words

@@ -1,22 +1,27 @@
 //! A slot that holds a request behind its closed gate.
-ghost use Rattle.std.specs.Prelude.{◌≡◌, ◌<◌, [], ◌∷◌, length, IsTrue, Some, IfOk, IfErr, OnOk, OnErr};
+ghost use Rattle.std.specs.Prelude.{◌≡◌, ◌<◌, ◌∷◌, length, Some, IfOk, OnOk};
 ghost use Rattle.cfs_pmem.specs.Faults.{HasCause};
-ghost use Rattle.cfs_pmem.specs.Images.{words_of, wrote, kept, IsImage, AllImages, IsSure, IsSetFrom, SettingStopped};
-ghost use Rattle.cfs_pmem.specs.Moments.{Moments};
-ghost use Rattle.cfs_pmem.specs.Steps.{StopsIn};
+ghost use Rattle.cfs_pmem.specs.Images.{words_of, AllImages, IsSure};
+ghost use Rattle.cfs_pmem.specs.WordOps.{SetsWord};
+ghost use Rattle.cfs_vec.specs.Items.{items_of};
 ghost use Rattle.cfs_slot.specs.Words.{mark_of, grant_of, ino_of, request_of, with_offset, live_entry, IsClosed, IsWholeButOffset};
 
 use crate::doubt::Doubt;
-use crate::layout::{GATE, OFFSET};
+use crate::layout::{GATE, MOST_TAILS, OFFSET, QUEUE_SLOTS};
 use crate::live::Live;
+use crate::part::Part;
 use crate::slot::Slot;
+use crate::slots::{all_regions, all_slots};
 use cfs_pmem::{DeviceFault, Power, Region, set_word};
+use cfs_vec::FixedVec;
 
-/// A slot whose request is persisted whole behind the closed gate: all but the offset of a `set_offset` that was refused.
+/// A slot whose request is persisted whole behind the closed gate: all but the offset of a `set_offset` that was refused. A long
+/// write has its tails here, and the slot is its head.
 #[derive(Drop)]
 pub struct Staged<R: Region> {
     pub(crate) region: R,
     pub(crate) grant: u64,
+    pub(crate) tails: FixedVec<Part<R>, MOST_TAILS>,
     pub ghost size: { length (words_of (R.seen region)) ≡ 518 },
     pub ghost closed: { AllImages (R.seen region) IsClosed },
     pub ghost unmarked: { AllImages (R.seen region) (λ image. mark_of image ≡ 0) },
@@ -24,8 +29,8 @@ pub struct Staged<R: Region> {
     pub ghost whole: { IsWholeButOffset (R.seen region) },
 }
 
-impl<R: Region> Staged<R> {
-    ghost use Rattle.cfs_slot.specs.Regions.{of_slot, of_staged, of_live, of_doubt, after_open, place_of};
+impl<R: Region + Drop> Staged<R> {
+    ghost use Rattle.cfs_slot.specs.Regions.{of_slots, of_staged, of_live, after_open, place_of, tails_of_staged, tails_after_open, words_in};
 
     /// The device number of its region.
     pub fn device(&self) -> u32
@@ -44,23 +49,14 @@ impl<R: Region> Staged<R> {
     /// Sets the offset and persists it, in two writing steps. Refuses for a device fault alone. After that the offset is unsure, so
     /// that an image may have the old or the new one, until a `set_offset` succeeds.
     pub fn set_offset<P: Power>(&mut self, power: &mut P, offset: u64) -> Result<(), DeviceFault>
-        ensures set { OnOk result (R.seen (of_staged self.new) ≡ kept (wrote OFFSET offset (R.seen (of_staged self.old)))) }
-        ensures sure { OnOk result (IsSure (R.seen (of_staged self.new))) }
-        ensures request { OnOk result (request_of (words_of (R.seen (of_staged self.new))) ≡
-            with_offset offset (request_of (words_of (R.seen (of_staged self.old))))) }
-        ensures made { OnOk result (P.steps power.new ≡
-            (R.seen (of_staged self.old)).device ∷ (R.seen (of_staged self.old)).device ∷ P.steps power.old) }
-        ensures unset { OnErr result (SettingStopped OFFSET offset
-            (P.steps power.old) (R.seen (of_staged self.old)) (P.steps power.new) (R.seen (of_staged self.new))) }
-        ensures stopped { OnErr result (StopsIn
-            ((R.seen (of_staged self.old)).device ∷ (R.seen (of_staged self.old)).device ∷ []) (P.steps power.old) (P.steps power.new)) }
-        // At each moment an image is one from before the call, or that with the new offset.
-        ensures moments { Moments IsImage (IsSetFrom (R.seen (of_staged self.old)) OFFSET offset)
-            (P.steps power.old) (R.seen (of_staged self.old)) (P.steps power.new) (R.seen (of_staged self.new)) }
+        ensures set { SetsWord R.obeys_power OFFSET offset result
+            (P.asked power.old) (R.seen (of_staged self.old)) (P.asked power.new) (R.seen (of_staged self.new)) }
+        ensures request { OnOk result (
+            request_of (words_of (R.seen (of_staged self.new))) (words_in R.seen (tails_of_staged self.new)) ≡
+            with_offset offset (request_of (words_of (R.seen (of_staged self.old))) (words_in R.seen (tails_of_staged self.old)))) }
+        ensures tails { tails_of_staged self.new ≡ tails_of_staged self.old }
         ensures grant { grant_of (words_of (R.seen (of_staged self.new))) ≡ grant_of (words_of (R.seen (of_staged self.old))) }
-        ensures reads { P.reads power.new ≡ P.reads power.old }
         ensures cause { HasCause (R.faults (of_staged self.old)) (R.faults (of_staged self.new)) result }
-        ensures power { IsTrue R.obeys_power → HasCause (P.refused power.old) (P.refused power.new) result }
     {
         set_word(&mut self.region, power, OFFSET, offset)?;
         Ok(())
@@ -72,51 +68,50 @@ impl<R: Region> Staged<R> {
         requires place { 0 < place }
         // Its offset is not unsure.
         requires sure { IsSure (R.seen (of_staged self)) }
-        ensures open { IfOk result (λ live. R.seen (of_live live) ≡ kept (wrote GATE place (R.seen (of_staged self)))) }
-        ensures sure { IfOk result (λ live. IsSure (R.seen (of_live live))) }
+        ensures set { SetsWord R.obeys_power GATE place result
+            (P.asked power.old) (R.seen (of_staged self)) (P.asked power.new) (R.seen (after_open result)) }
+        ensures tails { tails_after_open result ≡ tails_of_staged self }
         ensures place { IfOk result (λ live. place_of live ≡ place) }
         // The slot is a live entry of its file, at this place and with the request that was staged.
         ensures entry { IfOk result (λ live.
-            live_entry (ino_of (words_of (R.seen (of_staged self)))) (words_of (R.seen (of_live live)))
-            ≡ Some (place, request_of (words_of (R.seen (of_staged self))))) }
-        ensures made { OnOk result (P.steps power.new ≡
-            (R.seen (of_staged self)).device ∷ (R.seen (of_staged self)).device ∷ P.steps power.old) }
-        ensures doubt { IfErr result (λ doubt. SettingStopped GATE place
-            (P.steps power.old) (R.seen (of_staged self)) (P.steps power.new) (R.seen (of_doubt doubt))) }
-        ensures stopped { OnErr result (StopsIn
-            ((R.seen (of_staged self)).device ∷ (R.seen (of_staged self)).device ∷ []) (P.steps power.old) (P.steps power.new)) }
-        // At each moment an image is the staged request behind the closed gate, or behind the gate with this place.
-        ensures moments { Moments IsImage (IsSetFrom (R.seen (of_staged self)) GATE place)
-            (P.steps power.old) (R.seen (of_staged self)) (P.steps power.new) (R.seen (after_open result)) }
+            live_entry (ino_of (words_of (R.seen (of_staged self)))) (words_of (R.seen (of_live live))) (words_in R.seen (tails_of_staged self))
+            ≡ Some (place, request_of (words_of (R.seen (of_staged self))) (words_in R.seen (tails_of_staged self)))) }
         ensures grant { grant_of (words_of (R.seen (after_open result))) ≡ grant_of (words_of (R.seen (of_staged self))) }
-        ensures reads { P.reads power.new ≡ P.reads power.old }
         ensures cause { HasCause (R.faults (of_staged self)) (R.faults (after_open result)) result }
-        ensures power { IsTrue R.obeys_power → HasCause (P.refused power.old) (P.refused power.new) result }
     {
-        let Staged { mut region, grant } = self;
+        let Staged {
+            mut region,
+            grant,
+            tails,
+        } = self;
         match set_word(&mut region, power, GATE, place) {
             Ok(()) => Ok(Live {
                 region,
                 grant,
                 place,
+                tails,
             }),
-            Err(_) => Err(Doubt { region, grant }),
+            Err(_) => Err(Doubt {
+                region,
+                grant,
+                tails,
+            }),
         }
     }
 
-    /// Gives the request up. Writes nothing.
-    pub fn cancel(self) -> Slot<R>
-        ensures { of_slot result ≡ of_staged self }
+    /// Gives the request up: all its slots, the head first. Writes nothing.
+    pub fn cancel(self) -> FixedVec<Slot<R>, QUEUE_SLOTS>
+        ensures { of_slots result ≡ of_staged self ∷ tails_of_staged self }
     {
-        let Staged { region, .. } = self;
-        Slot { region }
+        let Staged { region, tails, .. } = self;
+        all_slots(Slot { region }, tails)
     }
 
-    /// Gives the region back as it is.
-    pub fn into_parts(self) -> R
-        ensures { result ≡ of_staged self }
+    /// Gives the regions back as they are, the head's first.
+    pub fn into_parts(self) -> FixedVec<R, QUEUE_SLOTS>
+        ensures { items_of result ≡ of_staged self ∷ tails_of_staged self }
     {
-        let Staged { region, .. } = self;
-        region
+        let Staged { region, tails, .. } = self;
+        all_regions(region, tails)
     }
 }

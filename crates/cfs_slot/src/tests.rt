@@ -5,6 +5,7 @@ ghost use Rattle.cfs_slot.specs.Regions.{of_staged};
 use crate::{Doubt, Found, Live, Slot, Staged, found, is_stageable};
 use cfs_file::{Bytes, Request};
 use cfs_pmem::{MemRegion, Meter, Pick, Region};
+use cfs_vec::FixedVec;
 use std::alloc::{AllocError, Global};
 use std::test::Fail;
 
@@ -28,7 +29,7 @@ fn append(alloc: Global, text: &[u8]) -> Result<Request, Fail> {
     Ok(Request::Append { bytes })
 }
 
-fn stage<R: Region>(
+fn stage<R: Region + Drop>(
     slot: Slot<R>,
     meter: &mut Meter,
     request: &Request,
@@ -40,6 +41,18 @@ fn stage<R: Region>(
     } else {
         Err(slot)
     }
+}
+
+/// The region of the head, which stands first.
+fn head(mut regions: FixedVec<MemRegion, 16>) -> Option<MemRegion> {
+    regions.reverse();
+    regions.pop()
+}
+
+/// The slot of a request that takes one alone.
+fn alone(mut slots: FixedVec<Slot<MemRegion>, 16>) -> Option<MemRegion> {
+    slots.reverse();
+    Some(slots.pop()?.into_parts())
 }
 
 /// Sets the offset and opens the gate.
@@ -57,25 +70,25 @@ fn open_at(
 /// A slot after so many of these calls: stage, set the offset, open the gate, mark, close the gate.
 fn after(staged: Staged<MemRegion>, meter: &mut Meter, calls: u32) -> Option<MemRegion> {
     if calls == 1 {
-        return Some(staged.into_parts());
+        return head(staged.into_parts());
     }
     let mut live = open_at(staged, meter, 77)?;
     if calls == 3 {
-        return Some(live.into_parts());
+        return head(live.into_parts());
     }
     if live.mark_noop(meter).is_err() {
         return None;
     }
     if calls == 4 {
-        return Some(live.into_parts());
+        return head(live.into_parts());
     }
-    Some(live.close_gate(meter).ok()?.into_parts())
+    alone(live.close_gate(meter).ok()?)
 }
 
 /// A slot whose request was given up after its offset was set.
-fn given_up(mut staged: Staged<MemRegion>, meter: &mut Meter) -> MemRegion {
+fn given_up(mut staged: Staged<MemRegion>, meter: &mut Meter) -> Option<MemRegion> {
     let _ = staged.set_offset(meter, 77);
-    staged.cancel().into_parts()
+    alone(staged.cancel())
 }
 
 /// The slot of this request after so many calls.
@@ -85,7 +98,7 @@ fn region_after(alloc: Global, request: &Request, calls: u32) -> Result<MemRegio
         .ok()
         .ok_or("not staged")?;
     if calls == 2 {
-        return Ok(given_up(staged, &mut meter));
+        return Ok(given_up(staged, &mut meter).ok_or("no slot")?);
     }
     Ok(after(staged, &mut meter, calls).ok_or("refused")?)
 }
@@ -132,14 +145,19 @@ fn a_request_stands_in_its_words(rt: HostRuntime) -> Result<(), Fail> {
 }
 
 /// A slot in which a request was staged and opened with a stop at the nth writing step.
-fn stopped(slot: Slot<MemRegion>, meter: &mut Meter, request: &Request, n: u64) -> MemRegion {
+fn stopped(
+    slot: Slot<MemRegion>,
+    meter: &mut Meter,
+    request: &Request,
+    n: u64,
+) -> Option<MemRegion> {
     meter.stop(n.max(1));
     match stage(slot, meter, request) {
         Ok(staged) => match staged.open_gate(meter, PLACE) {
-            Ok(live) => live.into_parts(),
-            Err(doubt) => doubt.into_parts(),
+            Ok(live) => head(live.into_parts()),
+            Err(doubt) => head(doubt.into_parts()),
         },
-        Err(slot) => slot.into_parts(),
+        Err(slot) => Some(slot.into_parts()),
     }
 }
 
@@ -173,7 +191,7 @@ fn a_stop_leaves_the_gate_closed_or_the_request_whole(rt: HostRuntime) -> Result
     ] {
         for (k, words) in [(0, durable), (1, present)] {
             let mut meter = Meter::calm(rt.alloc());
-            let region = stopped(empty(rt.alloc())?, &mut meter, &hello, n);
+            let region = stopped(empty(rt.alloc())?, &mut meter, &hello, n).ok_or("no slot")?;
             assert!(rt; leaves(region, k, &words), "stop {n}, pick {k}");
         }
     }
@@ -197,49 +215,58 @@ fn refused(
     call: Call,
     n: u64,
 ) -> Option<MemRegion> {
+    if let Call::Settle = call {
+        return refused_settle(doubted(slot, meter, request)?, meter, n);
+    }
     let Ok(staged) = stage(slot, meter, request) else {
         return None;
     };
     match call {
-        Call::Offset => Some(refused_offset(staged, meter, n)),
-        Call::Mark => Some(refused_mark(staged.open_gate(meter, PLACE).ok()?, meter, n)),
-        Call::Close => Some(refused_close(staged.open_gate(meter, PLACE).ok()?, meter, n)),
-        Call::Settle => Some(refused_settle(doubted(staged, meter)?, meter, n)),
+        Call::Offset => refused_offset(staged, meter, n),
+        Call::Mark => refused_mark(staged.open_gate(meter, PLACE).ok()?, meter, n),
+        Call::Close | Call::Settle => {
+            refused_close(staged.open_gate(meter, PLACE).ok()?, meter, n)
+        }
     }
 }
 
-fn refused_offset(mut staged: Staged<MemRegion>, meter: &mut Meter, n: u64) -> MemRegion {
+fn refused_offset(mut staged: Staged<MemRegion>, meter: &mut Meter, n: u64) -> Option<MemRegion> {
     meter.stop(n.max(1));
     let _ = staged.set_offset(meter, 77);
-    staged.into_parts()
+    head(staged.into_parts())
 }
 
-fn refused_mark(mut live: Live<MemRegion>, meter: &mut Meter, n: u64) -> MemRegion {
+fn refused_mark(mut live: Live<MemRegion>, meter: &mut Meter, n: u64) -> Option<MemRegion> {
     meter.stop(n.max(1));
     let _ = live.mark_noop(meter);
-    live.into_parts()
+    head(live.into_parts())
 }
 
-fn refused_close(live: Live<MemRegion>, meter: &mut Meter, n: u64) -> MemRegion {
+fn refused_close(live: Live<MemRegion>, meter: &mut Meter, n: u64) -> Option<MemRegion> {
     meter.stop(n.max(1));
     match live.close_gate(meter) {
-        Ok(slot) => slot.into_parts(),
-        Err(live) => live.into_parts(),
+        Ok(slots) => alone(slots),
+        Err(live) => head(live.into_parts()),
     }
 }
 
-fn refused_settle(doubt: Doubt<MemRegion>, meter: &mut Meter, n: u64) -> MemRegion {
+fn refused_settle(doubt: Doubt<MemRegion>, meter: &mut Meter, n: u64) -> Option<MemRegion> {
     meter.stop(n.max(1));
     match doubt.settle(meter) {
-        Ok(slot) => slot.into_parts(),
-        Err(doubt) => doubt.into_parts(),
+        Ok(slots) => alone(slots),
+        Err(doubt) => head(doubt.into_parts()),
     }
 }
 
 /// A slot whose gate was written, and whose persist was refused.
-fn doubted<R: Region + Drop>(staged: Staged<R>, meter: &mut Meter) -> Option<Doubt<R>>
-    requires { IsSure (R.seen (of_staged staged)) }
-{
+fn doubted(
+    slot: Slot<MemRegion>,
+    meter: &mut Meter,
+    request: &Request,
+) -> Option<Doubt<MemRegion>> {
+    let Ok(staged) = stage(slot, meter, request) else {
+        return None;
+    };
     meter.stop(2);
     let opened = staged.open_gate(meter, PLACE);
     meter.revive();
@@ -290,30 +317,19 @@ fn a_refused_call_leaves_its_word_old_or_new(rt: HostRuntime) -> Result<(), Fail
 fn settled(doubt: Doubt<MemRegion>, meter: &mut Meter, n: u64) -> Option<MemRegion> {
     meter.stop(n.max(1));
     match doubt.settle(meter) {
-        Ok(slot) => Some(slot.into_parts()),
+        Ok(slots) => alone(slots),
         Err(doubt) => {
             meter.revive();
-            Some(doubt.settle(meter).ok()?.into_parts())
+            alone(doubt.settle(meter).ok()?)
         }
     }
-}
-
-fn doubt_of(
-    slot: Slot<MemRegion>,
-    meter: &mut Meter,
-    request: &Request,
-) -> Option<Doubt<MemRegion>> {
-    let Ok(staged) = stage(slot, meter, request) else {
-        return None;
-    };
-    doubted(staged, meter)
 }
 
 #[test]
 fn a_doubt_is_settled(rt: HostRuntime) -> Result<(), Fail> {
     for n in 1..4 {
         let mut meter = Meter::calm(rt.alloc());
-        let doubt = doubt_of(
+        let doubt = doubted(
             empty(rt.alloc())?,
             &mut meter,
             &Request::Truncate { length: 3 },
@@ -349,9 +365,48 @@ fn recovery_finds_the_fields(rt: HostRuntime) -> Result<(), Fail> {
             kind: 1,
             count: 3,
             grant: GRANT,
+            tails: 0,
         };
         let mut meter = Meter::calm(rt.alloc());
         assert_eq!(rt; found_in(region, &mut meter), Some(fields), "after {calls}");
     }
+    Ok(())
+}
+
+/// The first words of a slot in which these bytes were staged as a tail, with a stop at the nth step.
+fn part_staged(
+    slot: Slot<MemRegion>,
+    meter: &mut Meter,
+    n: u64,
+    bytes: &[u8],
+) -> Option<MemRegion> {
+    meter.stop(n.max(1));
+    if bytes.is_empty() || 4096 < bytes.len() {
+        return None;
+    }
+    match slot.stage_part(meter, INO, bytes, GRANT) {
+        Ok(part) => Some(part.cancel().into_parts()),
+        Err(slot) => Some(slot.into_parts()),
+    }
+}
+
+const TAIL: [u64; 7] = [0, 0, 2, 0, 262_149, 9, 0x6f_6c6c_6568];
+
+/// Whether a tail of five bytes, staged with a stop at the nth step, is left with these first words by a crash of this pick.
+fn tail_leaves(alloc: Global, n: u64, k: u64, words: &[u64]) -> Result<bool, Fail> {
+    let mut meter = Meter::calm(alloc);
+    let region = part_staged(empty(alloc)?, &mut meter, n, b"hello");
+    Ok(leaves(region.ok_or("no slot")?, k, words))
+}
+
+// A tail of five bytes takes seven steps.
+#[test]
+fn a_stop_leaves_a_tail_in_part(rt: HostRuntime) -> Result<(), Fail> {
+    assert!(rt; tail_leaves(rt.alloc(), 1, 1, &EMPTY)?);
+    assert!(rt; tail_leaves(rt.alloc(), 4, 1, &[0, 0, 2, 0, 0])?);
+    assert!(rt; tail_leaves(rt.alloc(), 5, 1, &[0, 0, 2, 0, 262_149, 0])?);
+    assert!(rt; tail_leaves(rt.alloc(), 7, 0, &EMPTY)?);
+    assert!(rt; tail_leaves(rt.alloc(), 7, 1, &TAIL)?);
+    assert!(rt; tail_leaves(rt.alloc(), 8, 0, &TAIL)?);
     Ok(())
 }

@@ -1,12 +1,15 @@
 -- How calls of the program end.
-use Rattle.std.proofs.Common.{◌≡◌, inl, inr, ℕ, Some, None, List, [], refl, sym, subst}
+use Rattle.std.proofs.Common.{◌≡◌, ◌≤◌, length, inl, inr, ℕ, Some, None, List, [], refl, sym, subst, true}
 use Rattle.std.specs.declared.option.Option.{Option}
 use Rattle.std.specs.Io.KnownBytes.{Appends, Consumes, IsAtEnd}
 use Rattle.std.proofs.lemmas.List.{append-nil}
 use Rattle.cfs_file.specs.declared.entry.Entry.{Entry}
+use Rattle.cfs_io.specs.declared.script.TheConstants.{LONGEST_SCRIPT}
 use Rattle.cfs_io.specs.Files.{Files}
 use Rattle.cfs_script.specs.declared.line.Line.{Line}
+use Rattle.cfs_script.specs.declared.command.Command.TheVariants as commands
 use Rattle.cfs_script.specs.Script.{IsScript}
+use Rattle.cfs_top.specs.Stage.{are_served}
 use Rattle.cfs_top.specs.declared.out_line.OutLine.{OutLine}
 use Rattle.cfs_top.specs.declared.status.Status.{Status}
 use Rattle.cfs_top.specs.declared.status.Status.TheVariants.{Done, Usage, Script, Input, Output, Shelf, NoMemory}
@@ -39,38 +42,40 @@ said_writes due result status text before after heeded is_due (inr front) =
 
 -- the text of a script's run is due
 pub script_is_due : (left rest : Option (List ℕ)) (bytes : List ℕ) (lines : List Line) (outs : List OutLine) (log : List Entry) →
-    Consumes left rest bytes → IsAtEnd rest → IsScript bytes lines → Run [] lines outs log → PlayIsDue left rest Done (texts outs)
-script_is_due left rest bytes lines outs log came end script run = record {
+    Consumes left rest bytes → length bytes ≤ LONGEST_SCRIPT → IsAtEnd rest → IsScript commands.Play bytes lines → are_served 0 lines ≡ true → Run [] lines outs log → PlayIsDue left rest Done (texts outs)
+script_is_due left rest bytes lines outs log came short end script served run = record {
   bytes = bytes;
   came = came;
+  short = short;
   end = end;
   lines = lines;
   script = script;
+  served = served;
   outs = outs;
   log = log;
   run = run;
-  order = KeepsOrder-run bytes lines outs log script run;
+  order = KeepsOrder-run lines outs log served run;
   is_text = refl;
 }
 
 -- a front of the text of a script's run
 pub front_of_script : (left rest : Option (List ℕ)) (bytes : List ℕ) (lines : List Line) (before after : Option (List ℕ)) →
-    Consumes left rest bytes → IsAtEnd rest → IsScript bytes lines → PlaysFront [] lines before after →
+    Consumes left rest bytes → length bytes ≤ LONGEST_SCRIPT → IsAtEnd rest → IsScript commands.Play bytes lines → are_served 0 lines ≡ true → PlaysFront [] lines before after →
     WritesFront (PlayIsDue left rest) before after
-front_of_script left rest bytes lines before after came end script front = record {
+front_of_script left rest bytes lines before after came short end script served front = record {
   status = Done;
   text = texts front.outs;
-  is_due = script_is_due left rest bytes lines front.outs front.new came end script front.run;
+  is_due = script_is_due left rest bytes lines front.outs front.new came short end script served front.run;
   written = front.written;
 }
 
 -- the whole of it
 pub all_of_script : (left rest : Option (List ℕ)) (bytes : List ℕ) (lines : List Line) (log : List Entry) (before after : Option (List ℕ)) →
-    Consumes left rest bytes → IsAtEnd rest → IsScript bytes lines → PlaysAll [] lines log before after →
+    Consumes left rest bytes → length bytes ≤ LONGEST_SCRIPT → IsAtEnd rest → IsScript commands.Play bytes lines → are_served 0 lines ≡ true → PlaysAll [] lines log before after →
     WritesAll (PlayIsDue left rest) Done before after
-all_of_script left rest bytes lines log before after came end script all = record {
+all_of_script left rest bytes lines log before after came short end script served all = record {
   text = texts all.outs;
-  is_due = script_is_due left rest bytes lines all.outs log came end script all.run;
+  is_due = script_is_due left rest bytes lines all.outs log came short end script served all.run;
   written = all.written;
 }
 

@@ -2,6 +2,7 @@
 use Rattle.std.proofs.Common.{◌≡◌, ℕ, ◌+◌, ◌≤◌, ◌==◌, inl, inr, Some, List, [], ◌∷◌, ◌++◌, length, map, take, max, arith, refl, sym, ap, ◌∙◌, append_assoc, append-nil, length-append, Bool, true, false, cond}
 use Rattle.std.specs.declared.option.Option.{Option}
 use Rattle.std.specs.Option.{option_to_list}
+use Rattle.std.specs.Prelude.{◌&&◌, nat_le}
 use Rattle.std.specs.List.{filter}
 use Rattle.std.proofs.lemmas.List.{map-append, take_all}
 use Rattle.std.proofs.lemmas.List.Elements.{filter-append}
@@ -10,7 +11,7 @@ use Rattle.cfs_file.specs.declared.answer.Answer.TheVariants as answers
 use Rattle.cfs_file.specs.declared.entry.Entry.{Entry}
 use Rattle.cfs_file.specs.declared.request.Request.{Request}
 use Rattle.cfs_file.specs.declared.request.Request.TheVariants as requests
-use Rattle.cfs_file.specs.declared.file.TheConstants.{LONGEST_FILE}
+use Rattle.cfs_file.specs.declared.sizes.TheConstants.{LONGEST_FILE}
 use Rattle.cfs_file.specs.File.{IsFile, answer, effect, put}
 use Rattle.cfs_file.specs.Log.{IsLegal, file_of}
 use Rattle.cfs_file.proofs.Logs.{IsLegal-none, IsLegal-snoc}
@@ -18,8 +19,8 @@ use Rattle.cfs_file.proofs.Positions.{put-writes}
 use Rattle.cfs_script.specs.declared.form.Form.{Form}
 use Rattle.cfs_script.specs.declared.form.Form.TheVariants as forms
 use Rattle.cfs_script.specs.declared.line.Line.{Line}
-use Rattle.cfs_script.specs.Script.{IsScript}
-use Rattle.cfs_script.proofs.Shapes.{AreTransfers, IsScript-shape, IsTransfer}
+use Rattle.cfs_words.proofs.Numbers.{and_parts, leb-true}
+use Rattle.cfs_top.specs.Stage.{last_offset, most_bytes, is_transfer, is_served, are_served}
 use Rattle.cfs_top.specs.declared.out_line.OutLine.{OutLine}
 use Rattle.cfs_top.specs.declared.world.TheConstants.{FILE}
 use Rattle.cfs_top.specs.Answers.{printed, given, given_by}
@@ -34,8 +35,7 @@ chosen q log = lines_in (filter q log)
 
 -- a test of entries and a test of forms say the same of an admitted request
 pub record Agrees (q : Entry → Bool) (p : Form → Bool) : Type 0 where
-  pub caller : (c uid gid : ℕ) → p (forms.Caller c uid gid) ≡ false
-  pub opened : (c : ℕ) → p (forms.Open c) ≡ false
+  pub others : (form : Form) → is_request form ≡ false → p form ≡ false
   pub wrote : (place line c fd offset : ℕ) (bytes : List ℕ) →
       q (record { ino = FILE; place = place; caller = c; line = line; request = requests.Write offset bytes }) ≡ p (forms.Pwrite c fd offset bytes)
   pub read : (place line c fd offset count : ℕ) →
@@ -61,10 +61,6 @@ numbers-cons p line lines = at (p line.form)
 
 chosen-step : (q : Entry → Bool) (p : Form → Bool) → Agrees q p → (old : List Entry) (number : ℕ) (form : Form) (reply : Option OutLine) (new : List Entry) →
     Does old number form reply new → chosen q new ≡ chosen q old ++ numbers p (record { number = number; form = form } ∷ [])
-chosen-step q p agrees old number (forms.Caller c uid gid) reply new does =
-    rw (does.1, numbers_none p (record { number = number; form = forms.Caller c uid gid }) (agrees.caller c uid gid)) (sym (append-nil (chosen q old)))
-chosen-step q p agrees old number (forms.Open c) reply new does =
-    rw (does.1, numbers_none p (record { number = number; form = forms.Open c }) (agrees.opened c)) (sym (append-nil (chosen q old)))
 chosen-step q p agrees old number (forms.Pwrite c fd offset bytes) reply new does =
     let entry : Entry = record { ino = FILE; place = length old + 1; caller = c; line = number; request = requests.Write offset bytes } in
     rw (does.entry, filter-append q old (entry ∷ []), map-append (λ (e : Entry). e.line) (filter q old) (filter q (entry ∷ [])))
@@ -73,6 +69,8 @@ chosen-step q p agrees old number (forms.Pread c fd offset count) reply new does
     let entry : Entry = record { ino = FILE; place = length old + 1; caller = c; line = number; request = requests.Read offset count } in
     rw (does.entry, filter-append q old (entry ∷ []), map-append (λ (e : Entry). e.line) (filter q old) (filter q (entry ∷ [])))
     (ap (λ more. chosen q old ++ more) (kept_alike _ _ entry (record { number = number; form = forms.Pread c fd offset count }) (agrees.read (length old + 1) number c fd offset count) refl))
+chosen-step q p agrees old number form reply new does =
+    rw (does.1, numbers_none p (record { number = number; form = form }) (agrees.others form refl)) (sym (append-nil (chosen q old)))
 
 pub chosen-run : (q : Entry → Bool) (p : Form → Bool) → Agrees q p → (old : List Entry) (lines : List Line) (outs : List OutLine) (new : List Entry) →
     Run old lines outs new → chosen q new ≡ chosen q old ++ numbers p lines
@@ -89,19 +87,22 @@ filter-all [] = refl
 filter-all (entry ∷ log) = ap (λ rest. entry ∷ rest) (filter-all log)
 
 requests_agree : Agrees (λ _. true) is_request
-requests_agree = record { caller = λ c uid gid. refl; opened = λ c. refl; wrote = λ place line c fd offset bytes. refl; read = λ place line c fd offset count. refl }
+requests_agree = record { others = λ form e. e; wrote = λ place line c fd offset bytes. refl; read = λ place line c fd offset count. refl }
+
+own_others : (caller : ℕ) (form : Form) → is_request form ≡ false → is_request_of caller form ≡ false
+own_others caller (forms.Pwrite c fd offset bytes) e = absurd cc
+own_others caller (forms.Pread c fd offset count) e = absurd cc
+own_others caller form e = refl
 
 own_agree : (caller : ℕ) → Agrees (λ entry. entry.caller == caller) (is_request_of caller)
-own_agree caller = record { caller = λ c uid gid. refl; opened = λ c. refl; wrote = λ place line c fd offset bytes. refl; read = λ place line c fd offset count. refl }
+own_agree caller = record { others = own_others caller; wrote = λ place line c fd offset bytes. refl; read = λ place line c fd offset count. refl }
 
 -- ---- the log is legal
 
 -- a write within the longest file
 abbrev pub IsWithin : Form → Type 0
-IsWithin (forms.Caller c uid gid) = Unit {0}
-IsWithin (forms.Open c) = Unit {0}
 IsWithin (forms.Pwrite c fd offset bytes) = offset + length bytes ≤ LONGEST_FILE
-IsWithin (forms.Pread c fd offset count) = Unit {0}
+IsWithin _ = Unit {0}
 
 abbrev pub AreWithin : List Line → Type 0
 AreWithin [] = Unit {0}
@@ -143,12 +144,12 @@ answered-admits old replies line caller request reply new is file admits =
 
 answered-step : (old : List Entry) (replies : List (Option Answer)) (number : ℕ) (form : Form) (reply : Option OutLine) (new : List Entry) →
     IsAnswered old replies → IsWithin form → Does old number form reply new → IsAnswered new (replies ++ given (option_to_list reply))
-answered-step old replies number (forms.Caller c uid gid) reply new is within does = rw (does.0, does.1, append-nil replies) is
-answered-step old replies number (forms.Open c) reply new is within does = rw (does.0, does.1, append-nil replies) is
+answered-step old replies number (forms.Open c path flags mode) reply new is within does = rw (does.0, does.1, append-nil replies) is
 answered-step old replies number (forms.Pwrite c fd offset bytes) reply new is within does =
     answered-admits old replies number c (requests.Write offset bytes) reply new is (put_within _ bytes offset (file_within old replies is.legal) within) does
 answered-step old replies number (forms.Pread c fd offset count) reply new is within does =
     answered-admits old replies number c (requests.Read offset count) reply new is (file_within old replies is.legal) does
+answered-step old replies number form reply new is within does = rw (does.0, does.1, append-nil replies) is
 
 pub answered-run : (old : List Entry) (replies : List (Option Answer)) (lines : List Line) (outs : List OutLine) (new : List Entry) →
     IsAnswered old replies → AreWithin lines → Run old lines outs new → IsAnswered new (replies ++ given outs)
@@ -162,27 +163,26 @@ answered-run old replies (line ∷ lines) outs new is within run =
 
 -- ---- scripts
 
-transfer_within : (form : Form) → IsTransfer form → IsWithin form
-transfer_within (forms.Caller c uid gid) is = tt
-transfer_within (forms.Open c) is = tt
-transfer_within (forms.Pwrite c fd offset bytes) is = omega (arith, is.2, is.4)
-transfer_within (forms.Pread c fd offset count) is = tt
+served_within : (before : ℕ) (form : Form) → is_served before form ≡ true → IsWithin form
+served_within before (forms.Pwrite c fd offset bytes) e =
+    let first = and_parts (is_transfer before c fd offset) (nat_le 1 (length bytes) && nat_le (length bytes) most_bytes) e in
+    let p = and_parts (nat_le 2 before) (c == 1 && (fd == 0 && nat_le offset last_offset)) first.0 in
+    let q = and_parts (c == 1) (fd == 0 && nat_le offset last_offset) p.1 in
+    let r = and_parts (fd == 0) (nat_le offset last_offset) q.1 in
+    let few = and_parts (nat_le 1 (length bytes)) (nat_le (length bytes) most_bytes) first.1 in
+    omega (arith, leb-true _ _ r.1, leb-true _ _ few.1)
+served_within before form e = tt
 
-transfers_within : (n : ℕ) (lines : List Line) → AreTransfers n lines → AreWithin lines
-transfers_within n [] are = tt
-transfers_within n (line ∷ lines) are = (transfer_within line.form are.1, transfers_within (n + 1) lines are.2)
+all_within : (before : ℕ) (lines : List Line) → are_served before lines ≡ true → AreWithin lines
+all_within before [] e = tt
+all_within before (line ∷ lines) e =
+    let both = and_parts (is_served before line.form) (are_served (before + 1) lines) e in
+    (served_within before line.form both.0, all_within (before + 1) lines both.1)
 
-pub script_within : (bytes : List ℕ) (lines : List Line) → IsScript bytes lines → AreWithin lines
-script_within bytes lines is = elim (IsScript-shape bytes lines is) [
-  | inl none ↦ rw none tt
-  | inr shape ↦ rw shape.1 (tt, (tt, transfers_within 3 shape.0 shape.2))
-]
-
--- the run of a script keeps the order of its lines
-pub KeepsOrder-run : (bytes : List ℕ) (lines : List Line) (outs : List OutLine) (log : List Entry) →
-    IsScript bytes lines → Run [] lines outs log → KeepsOrder lines outs log
-KeepsOrder-run bytes lines outs log is run = record {
-  legal = (answered-run [] [] lines outs log (record { legal = IsLegal-none [] (omega arith); long = refl }) (script_within bytes lines is) run).legal;
+-- the run of a script that is served keeps the order of its lines
+pub KeepsOrder-run : (lines : List Line) (outs : List OutLine) (log : List Entry) → are_served 0 lines ≡ true → Run [] lines outs log → KeepsOrder lines outs log
+KeepsOrder-run lines outs log served run = record {
+  legal = (answered-run [] [] lines outs log (record { legal = IsLegal-none [] (omega arith); long = refl }) (all_within 0 lines served) run).legal;
   once = ap lines_in (sym (filter-all log)) ∙ chosen-run (λ _. true) is_request requests_agree [] lines outs log run;
   own = λ caller. chosen-run (λ entry. entry.caller == caller) (is_request_of caller) (own_agree caller) [] lines outs log run;
 }

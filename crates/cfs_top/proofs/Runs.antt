@@ -54,10 +54,10 @@ Step-goes_on old line = does old line.number line.form
     admits old number caller request = (_, (_, record { entry = refl; reply_is = refl }))
 
     does : (old : List Entry) (number : ℕ) (form : Form) → (reply : Option OutLine) × ((new : List Entry) × Does old number form reply new)
-    does old number (forms.Caller caller uid gid) = (None, (old, (refl, refl)))
-    does old number (forms.Open caller) = (_, (old, (refl, refl)))
+    does old number (forms.Open caller path flags mode) = (_, (old, (refl, refl)))
     does old number (forms.Pwrite caller fd offset bytes) = admits old number caller (requests.Write offset bytes)
     does old number (forms.Pread caller fd offset count) = admits old number caller (requests.Read offset count)
+    does old number form = (None, (old, (refl, refl)))
 
 pub Run-goes_on : (old : List Entry) (lines : List Line) → (outs : List OutLine) × ((new : List Entry) × Run old lines outs new)
 Run-goes_on old [] = ([], (old, (refl, refl)))

@@ -3,24 +3,22 @@ use Rattle.std.specs.Prelude.{◌≡◌, ℕ, ◌==◌, Bool, true, false, List,
 use Rattle.cfs_file.specs.declared.entry.Entry.{Entry}
 use Rattle.cfs_file.specs.Log.{IsLegal, own_list}
 use Rattle.cfs_script.specs.declared.form.Form.{Form}
-use Rattle.cfs_script.specs.declared.form.Form.TheVariants.{Caller, Open, Pwrite, Pread}
+use Rattle.cfs_script.specs.declared.form.Form.TheVariants.{Pwrite, Pread}
 use Rattle.cfs_script.specs.declared.line.Line.{Line}
 use Rattle.cfs_top.specs.declared.out_line.OutLine.{OutLine}
 use Rattle.cfs_top.specs.Answers.{given}
 
 -- the form is a request to the file
 abbrev pub is_request : Form → Bool
-is_request (Caller c uid gid) = false
-is_request (Open c) = false
 is_request (Pwrite c fd offset bytes) = true
 is_request (Pread c fd offset count) = true
+is_request _ = false
 
 -- the form is a request of that caller to the file
 abbrev pub is_request_of : ℕ → Form → Bool
-is_request_of caller (Caller c uid gid) = false
-is_request_of caller (Open c) = false
 is_request_of caller (Pwrite c fd offset bytes) = c == caller
 is_request_of caller (Pread c fd offset count) = c == caller
+is_request_of caller _ = false
 
 -- the numbers of the lines whose form passes a test
 abbrev pub numbers : (Form → Bool) → List Line → List ℕ

@@ -1,5 +1,5 @@
 -- How a call of the program ends: after which words and input, with which status and output.
-use Rattle.std.specs.Prelude.{◌≡◌, ◌⊎◌, ℕ, List, []}
+use Rattle.std.specs.Prelude.{◌≡◌, ◌⊎◌, ◌≤◌, ℕ, List, [], length, IsTrue, IsFalse}
 use Rattle.std.specs.declared.option.Option.{Option}
 use Rattle.std.specs.Io.KnownBytes.{Appends, Consumes, IsAtEnd}
 use Rattle.cfs_file.specs.declared.entry.Entry.{Entry}
@@ -7,6 +7,7 @@ use Rattle.cfs_io.specs.declared.script.TheConstants.{LONGEST_SCRIPT}
 use Rattle.cfs_image.specs.Fresh.{new_image_of}
 use Rattle.cfs_io.specs.Files.{Files, OthersKept, Saved}
 use Rattle.cfs_io.specs.Streams.{AppendsFront, MoreCame, SomeCame}
+use Rattle.cfs_script.specs.declared.command.Command.TheVariants as commands
 use Rattle.cfs_script.specs.declared.line.Line.{Line}
 use Rattle.cfs_script.specs.Script.{IsScript, IsNoScript}
 use Rattle.cfs_top.specs.declared.out_line.OutLine.{OutLine}
@@ -15,6 +16,7 @@ use Rattle.cfs_top.specs.declared.status.Status.TheVariants.{Done, Usage, Script
 use Rattle.cfs_top.specs.Command.{IsMkfs, IsPlay}
 use Rattle.cfs_top.specs.Order.{KeepsOrder}
 use Rattle.cfs_top.specs.Play.{Run}
+use Rattle.cfs_top.specs.Stage.{are_served}
 use Rattle.cfs_top.specs.Text.{refused_text, texts, usage_text}
 
 -- what is told of the outside at one moment: the bytes that the source has left, the bytes that the
@@ -24,30 +26,43 @@ pub record Outside : Type 0 where
   pub written : Option (List ℕ)
   pub files : Option Files
 
--- The source was read to its end, its bytes are a script, and the text is all that its lines answer,
+-- The source was read to its end, its bytes are a script and no more than one may have, and the text is all that its lines answer,
 -- one after another from an empty file on.
 pub record PlaysScript (left rest : Option (List ℕ)) (text : List ℕ) : Type 0 where
   pub bytes : List ℕ
   pub came : Consumes left rest bytes
+  pub short : length bytes ≤ LONGEST_SCRIPT
   pub end : IsAtEnd rest
   pub lines : List Line
-  pub script : IsScript bytes lines
+  pub script : IsScript commands.Play bytes lines
+  pub served : IsTrue (are_served 0 lines)
   pub outs : List OutLine
   pub log : List Entry
   pub run : Run [] lines outs log
   pub order : KeepsOrder lines outs log
   pub is_text : text ≡ texts outs
 
--- The source was read to its end, and its bytes are no script.
+-- The source was read to its end, and its bytes are no script, though no more than one may have.
 pub record IsNone (left rest : Option (List ℕ)) : Type 0 where
   pub bytes : List ℕ
   pub came : Consumes left rest bytes
+  pub short : length bytes ≤ LONGEST_SCRIPT
   pub end : IsAtEnd rest
-  pub none : IsNoScript bytes
+  pub none : IsNoScript commands.Play bytes
 
--- more bytes came than a script may have, or what came is no script
+-- The source was read to its end, and its bytes are a script that the program does not serve yet.
+pub record IsUnserved (left rest : Option (List ℕ)) : Type 0 where
+  pub bytes : List ℕ
+  pub came : Consumes left rest bytes
+  pub short : length bytes ≤ LONGEST_SCRIPT
+  pub end : IsAtEnd rest
+  pub lines : List Line
+  pub script : IsScript commands.Play bytes lines
+  pub unserved : IsFalse (are_served 0 lines)
+
+-- more bytes came than a script may have, or what came is no script, or one that is not served yet
 abbrev pub IsRefused : Option (List ℕ) → Option (List ℕ) → Type 0
-IsRefused left rest = MoreCame left rest LONGEST_SCRIPT ⊎ IsNone left rest
+IsRefused left rest = MoreCame left rest LONGEST_SCRIPT ⊎ (IsNone left rest ⊎ IsUnserved left rest)
 
 -- the status that `play` is to end with, and the text that it is to write
 abbrev pub PlayIsDue : Option (List ℕ) → Option (List ℕ) → Status → List ℕ → Type 0

@@ -24,12 +24,13 @@ pub record Admits (old : List Entry) (line caller : ℕ) (request : Request) (re
   pub entry : new ≡ old ++ record { ino = FILE; place = length old + 1; caller = caller; line = line; request = request } ∷ []
   pub reply_is : reply ≡ Some (record { number = line; answer = printed FILE (length old + 1) (answer (file_of [] old) request) })
 
--- what a line answers, if it answers, and the log before and after it
+-- what a line answers, if it answers, and the log before and after it; a script that is served has no other
+-- lines than these four
 abbrev pub Does : List Entry → ℕ → Form → Option OutLine → List Entry → Type 0
-Does old line (forms.Caller caller uid gid) reply new = (reply ≡ None) × (new ≡ old)
-Does old line (forms.Open caller) reply new = (reply ≡ Some (record { number = line; answer = Opened 1 0 FILE })) × (new ≡ old)
+Does old line (forms.Open caller path flags mode) reply new = (reply ≡ Some (record { number = line; answer = Opened 1 0 FILE })) × (new ≡ old)
 Does old line (forms.Pwrite caller fd offset bytes) reply new = Admits old line caller (requests.Write offset bytes) reply new
 Does old line (forms.Pread caller fd offset count) reply new = Admits old line caller (requests.Read offset count) reply new
+Does old line _ reply new = (reply ≡ None) × (new ≡ old)
 
 abbrev pub Step : List Entry → Line → Option OutLine → List Entry → Type 0
 Step old line reply new = Does old line.number line.form reply new

@@ -7,7 +7,7 @@ ghost use Rattle.cfs_top.specs.Command.{IsMkfs, IsPlay, is_image_byte, is_image_
 
 use cfs_file::Word;
 use cfs_image::{FEWEST_BLOCKS, FEWEST_QUEUES, MOST_BLOCKS, MOST_QUEUES};
-use cfs_script::number_in;
+use cfs_words::number_in;
 
 /// A store that is to be made.
 #[derive(Clone, Copy)]

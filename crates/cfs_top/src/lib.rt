@@ -6,6 +6,7 @@ mod command;
 mod out_line;
 mod play;
 mod printed;
+mod stage;
 mod status;
 mod steady;
 mod world;

@@ -1,7 +1,7 @@
 //! A script, played line by line.
 
 ghost use Rattle.std.specs.Prelude.{◌≡◌, ◌≤◌, IfOk, OnOk, OnErr, IsErrOf, [], ◌∷◌};
-ghost use Rattle.cfs_io.specs.Causes.{Rose};
+ghost use Rattle.cfs_pmem.specs.Faults.{Rose};
 ghost use Rattle.cfs_top.specs.declared.play.PlayEnd.TheVariants as ends;
 ghost use Rattle.cfs_top.specs.Play.{PlaysAll, PlaysFront};
 
@@ -52,6 +52,7 @@ pub(crate) fn play_script<K: Sink>(
     ensures output { IsErrOf result PlayEnd.Output → Rose (K.faults output.old) (K.faults output.new) }
     ensures later { K.faults output.old ≤ K.faults output.new }
     ensures kept { OnOk result (K.faults output.new ≡ K.faults output.old) }
+    ensures kept_want { IsErrOf result PlayEnd.NoMemory → K.faults output.new ≡ K.faults output.old }
 {
     'lines: for line in script.lines() {
         play_line(alloc, world, line, output)?;
@@ -71,6 +72,7 @@ fn play_line<K: Sink>(
     ensures output { IsErrOf result PlayEnd.Output → Rose (K.faults output.old) (K.faults output.new) }
     ensures later { K.faults output.old ≤ K.faults output.new }
     ensures kept { OnOk result (K.faults output.new ≡ K.faults output.old) }
+    ensures kept_want { IsErrOf result PlayEnd.NoMemory → K.faults output.new ≡ K.faults output.old }
 {
     if let Some(out) = world.play_line(line)? {
         let text = print_line(alloc, &out)?;

@@ -3,13 +3,14 @@
 ghost use Rattle.std.specs.Prelude.{◌≡◌, ◌≢◌, ◌≤◌, List, ℕ};
 ghost use Rattle.std.specs.declared.option.Option.{Option};
 ghost use Rattle.cfs_image.specs.declared.layout.TheConstants.{FEWEST_BLOCKS, FEWEST_QUEUES, MOST_BLOCKS, MOST_QUEUES};
-ghost use Rattle.cfs_io.specs.Causes.{Rose};
+ghost use Rattle.cfs_pmem.specs.Faults.{Rose};
 ghost use Rattle.cfs_io.specs.Streams.{SomeCame};
 ghost use Rattle.cfs_top.specs.Outside.{Ends, IsHeeded, Makes, PlayIsDue, Says, Writes};
 
 use crate::Status;
 use crate::command::{image_to_play, store_to_make};
 use crate::play::{PlayEnd, play_script};
+use crate::stage::are_served;
 use crate::world::World;
 use cfs_file::{NoMemory, Word};
 use cfs_image::new_image;
@@ -23,7 +24,8 @@ use std::alloc::Global;
 /// queues, in place of an image of that name. It reads and writes nothing else.
 ///
 /// `play IMAGE` reads a script from `input` and writes what the script's lines answer to `output`.
-/// The image is neither loaded nor saved yet: each script begins with an empty file system.
+/// The image is neither loaded nor saved yet: each script begins with an empty file system. A
+/// script of more than one caller and the file `/a` is refused yet.
 pub fn crossfs_steady<S: Source, K: Sink, H: Shelf>(
     alloc: Global,
     words: &[Word],
@@ -38,8 +40,8 @@ pub fn crossfs_steady<S: Source, K: Sink, H: Shelf>(
     // A fault is answered only where there was one, and none is passed over.
     ensures input { result ≡ Status.Input → Rose (S.faults input.old) (S.faults input.new) }
     ensures output { result ≡ Status.Output → Rose (K.faults output.old) (K.faults output.new) }
-    ensures source { IsHeeded result → S.faults input.new ≡ S.faults input.old }
-    ensures sink { IsHeeded result → K.faults output.new ≡ K.faults output.old }
+    ensures source { result ≢ Status.Input → S.faults input.new ≡ S.faults input.old }
+    ensures sink { result ≢ Status.Output → K.faults output.new ≡ K.faults output.old }
     ensures shelf { result ≡ Status.Shelf → Rose (H.save_faults shelf.old) (H.save_faults shelf.new) }
     ensures loads { H.load_faults shelf.new ≡ H.load_faults shelf.old }
     ensures saves { result ≢ Status.Shelf → H.save_faults shelf.new ≡ H.save_faults shelf.old }
@@ -81,8 +83,8 @@ fn play<S: Source, K: Sink>(alloc: Global, input: &mut S, output: &mut K) -> Sta
     ensures shelf { result ≢ Status.Shelf }
     ensures input { result ≡ Status.Input → Rose (S.faults input.old) (S.faults input.new) }
     ensures output { result ≡ Status.Output → Rose (K.faults output.old) (K.faults output.new) }
-    ensures source { IsHeeded result → S.faults input.new ≡ S.faults input.old }
-    ensures sink { IsHeeded result → K.faults output.new ≡ K.faults output.old }
+    ensures source { result ≢ Status.Input → S.faults input.new ≡ S.faults input.old }
+    ensures sink { result ≢ Status.Output → K.faults output.new ≡ K.faults output.old }
 {
     let bytes = match read_script(alloc, input) {
         Ok(bytes) => bytes,
@@ -95,6 +97,9 @@ fn play<S: Source, K: Sink>(alloc: Global, input: &mut S, output: &mut K) -> Sta
         Err(ScriptRefusal::Line(_)) => return say(output, b"script refused\n", Status::Script),
         Err(ScriptRefusal::NoMemory) => return Status::NoMemory,
     };
+    if !are_served(script.lines()) {
+        return say(output, b"script refused\n", Status::Script);
+    }
     let mut world = World::new(alloc);
     match play_script(alloc, &mut world, &script, output) {
         Ok(()) => Status::Done,
@@ -108,7 +113,7 @@ fn say<K: Sink>(output: &mut K, text: &[u8], status: Status) -> Status
     requires { IsHeeded status }
     ensures said { Says result status text.now (K.written output.old) (K.written output.new) }
     ensures output { result ≡ Status.Output → Rose (K.faults output.old) (K.faults output.new) }
-    ensures sink { IsHeeded result → K.faults output.new ≡ K.faults output.old }
+    ensures sink { result ≢ Status.Output → K.faults output.new ≡ K.faults output.old }
 {
     match write_all(output, text) {
         Ok(()) => status,

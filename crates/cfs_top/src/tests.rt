@@ -74,7 +74,18 @@ fn scripts_answer_their_lines(rt: HostRuntime) -> Result<(), Fail> {
             Status::Script,
             "script refused\n",
         ),
-        ("caller 1 10 10\n", Status::Script, "script refused\n"),
+        ("caller 1 10 10\n", Status::Done, ""),
+        ("caller 2 10 10\n", Status::Script, "script refused\n"),
+        (
+            "# a comment\ncaller 1 10 10\n\n1 open /a rwc 0644\n1 pwrite 0 0 h:6869\n1 pread 0 0 2",
+            Status::Done,
+            "4 ok ns=1 fd=0 ino=2\n5 ok ino=2 place=1 off=0 n=2\n6 ok ino=2 place=2 n=2 h:6869\n",
+        ),
+        (
+            "caller 1 10 10\n1 open /b rwc 0644\n",
+            Status::Script,
+            "script refused\n",
+        ),
         (
             "caller 1 10 10\n1 open /a rwc 0644\n1 pread 0 00 3\n",
             Status::Script,
@@ -85,6 +96,19 @@ fn scripts_answer_their_lines(rt: HostRuntime) -> Result<(), Fail> {
         assert_eq!(rt; ended.output.as_slice(), expected.as_bytes(), "{script}");
         assert_eq!(rt; ended.status, status, "{script}");
     }
+    Ok(())
+}
+
+#[test]
+fn a_script_that_is_too_long_is_refused(rt: HostRuntime) -> Result<(), Fail> {
+    let alloc = rt.alloc();
+    let words = words_of(alloc, &["crossfs", "play", "d"])?;
+    let mut input = MemSource::new(vec![in alloc; b'#'; 16_777_217]?, Vec::new(alloc));
+    let mut output = MemSink::new(alloc, Vec::new(alloc));
+    let mut shelf = MemShelf::new(alloc, Vec::new(alloc));
+    let status = crossfs_steady(alloc, words.as_slice(), &mut input, &mut output, &mut shelf);
+    assert_eq!(rt; status, Status::Script);
+    assert_eq!(rt; output.written(), b"script refused\n".as_slice());
     Ok(())
 }
 
@@ -132,7 +156,7 @@ fn a_fault_ends_the_call(rt: HostRuntime) -> Result<(), Fail> {
         ("play", BEGIN, None, Some(1), Status::Output, ""),
         ("play", BEGIN, None, Some(2), Status::Done, open),
         ("pl", BEGIN, Some(1), Some(1), Status::Output, ""),
-        ("play", "#\n", None, Some(1), Status::Output, ""),
+        ("play", "bad\n", None, Some(1), Status::Output, ""),
     ] {
         let ended = run(rt.alloc(), &["crossfs", words, "d"], script, read, write)?;
         assert_eq!(rt; ended.status, status, "{words} {script}");
@@ -193,7 +217,7 @@ fn load(alloc: Global, shelf: &mut MemShelf, name: &str) -> Result<Vec<u8>, Fail
 fn mkfs_saves_a_new_image(rt: HostRuntime) -> Result<(), Fail> {
     let alloc = rt.alloc();
     let want = new_image(alloc, 16, 1)?;
-    assert_eq!(rt; want.len(), 190_904);
+    assert_eq!(rt; want.len(), 191_416);
     for image in ["d", "new"] {
         let mut shelf = shelf_of_two(alloc, None)?;
         let status = make_store(alloc, &mut shelf, image, "16", "1")?;

@@ -52,7 +52,6 @@ impl World {
         ensures err { OnErr result (self.new ≡ self.old) }
     {
         match &line.form {
-            Form::Caller { .. } => Ok(None),
             Form::Open { .. } => Ok(Some(OutLine {
                 number: line.number,
                 answer: Printed::Opened {
@@ -87,6 +86,7 @@ impl World {
                 let out = self.admit(line.number, *caller, request)?;
                 Ok(Some(out))
             }
+            _ => Ok(None),
         }
     }
 

@@ -3,7 +3,7 @@
 #![tactic(auto)]
 
 use cfs_file::{NoMemory, Word};
-use cfs_io::{FileShelf, StdSink, StdSource};
+use cfs_io::{FileShelf, StdSink, StdSource, SystemFolder};
 use cfs_top::{Status, crossfs_steady};
 use std::alloc::Global;
 use std::env;
@@ -35,6 +35,6 @@ fn read_words<R: Env + AllocGlobal>(rt: &R, alloc: Global) -> Result<Vec<Word>, 
 fn run(rt: &HostRuntime, alloc: Global, words: &[Word]) -> Status {
     let mut input = StdSource::new(rt.stdin());
     let mut output = StdSink::new(rt.stdout());
-    let mut shelf = FileShelf::new(rt, alloc);
+    let mut shelf = FileShelf::new(SystemFolder::new(rt, alloc), alloc);
     crossfs_steady(alloc, words, &mut input, &mut output, &mut shelf)
 }

@@ -1,4 +1,4 @@
-use Rattle.cfs_medium.proofs.Others.{slots-stay}
+use Rattle.cfs_medium.proofs.Slots.{slots-stay}
 use Rattle.cfs_medium.proofs.slots_of_others_stay.Goals as goal
 
 pub returns : goal.returns

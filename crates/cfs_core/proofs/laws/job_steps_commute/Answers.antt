@@ -5,4 +5,5 @@ use Rattle.cfs_core.proofs.laws.job_steps_commute.Goals as goal
 
 pub returns : goal.returns
 returns c = λ core list fresh run place other block beside one two places blocks first second.
-    steps-commute (after_all core list) (kept-all core list fresh run) place other block beside one two places blocks first second
+    steps-commute (after_all core list)
+    (kept-all core list fresh run) place other block beside one two places blocks first second

@@ -9,4 +9,5 @@ use Rattle.cfs_core.proofs.laws.steps_stay_inside.Goals as goal
 pub returns : goal.returns
 returns c = λ core list fresh run place block step may_be.
     stays-inside (after_all core list) (kept-all core list fresh run) place block step
-    (both (is_in_phase (after_all core list).crashed (step_of place block step)) (case (after_all core list) (step_of place block step)) may_be).1
+    (both (is_in_phase (after_all core list).crashed (step_of place block step))
+    (case (after_all core list) (step_of place block step)) may_be).1

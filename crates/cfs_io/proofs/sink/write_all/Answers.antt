@@ -12,5 +12,5 @@ pub pieces-preserved : goal.pieces-preserved
 pieces-preserved g c = record {
   within = within_on _ c.pieces.at _ c.pieces.invariant.within c.in_ok-at.ensures.bound;
   written = append_on _ _ _ _ c.pieces.at c.in_ok-at.field-0 c.pieces.invariant.written c.in_ok-at.ensures.bytes;
-  faults = c.in_ok-at.ensures.cause.kept ∙ c.pieces.invariant.faults;
+  faults = c.in_ok-at.ensures.cause.passed ∙ c.pieces.invariant.faults;
 }

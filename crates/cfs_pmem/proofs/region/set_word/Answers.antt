@@ -1,30 +1,19 @@
-use Rattle.cfs_pmem.proofs.ImageLemmas.{set_from_same, set_from_wrote, sure_kept}
-use Rattle.cfs_pmem.proofs.MomentLemmas.{begun, extended, on_failure, on_persist, at_end}
+use Rattle.std.proofs.lemmas.Result.{err_from_is_err_and}
+use Rattle.cfs_pmem.proofs.WordLemmas.{set_at_write, set_at_persist, set_whole}
 use Rattle.cfs_pmem.proofs.region.set_word.Goals as goal
 
-pub returns-in_err-write-clause-moments : goal.returns-in_err-write-clause-moments
-returns-in_err-write-clause-moments g c =
-    on_failure (begun _ _ (set_from_same _ c.args.at c.args.word)) c.in_err-write.ensures.err c.write.ensures.steps
+pub returns-in_err-write-clause-set : goal.returns-in_err-write-clause-set
+returns-in_err-write-clause-set g c =
+    let p = err_from_is_err_and c.from_residual.result c.from_residual.ensures.1 in
+    set_at_write p.0 p.1 c.requires c.in_err-write.ensures.err c.write.ensures.asks c.in_err-write.ensures.asked
 
-pub returns-in_err-persist-clause-moments : goal.returns-in_err-persist-clause-moments
-returns-in_err-persist-clause-moments g c =
-    on_failure
-    (extended _ (begun _ _ (set_from_same _ c.args.at c.args.word)) c.in_ok-write.ensures.ok c.write.ensures.steps
-    (set_from_wrote _ c.args.at c.args.word c.requires c.in_ok-write.ensures.ok))
-    c.in_err-persist.ensures.err c.persist.ensures.steps
+pub returns-in_err-persist-clause-set : goal.returns-in_err-persist-clause-set
+returns-in_err-persist-clause-set g c =
+    let p = err_from_is_err_and c.from_residual-in_err-persist.result c.from_residual-in_err-persist.ensures.1 in
+    set_at_persist p.0 p.1 c.requires c.in_ok-write.ensures.ok c.write.ensures.asks c.in_ok-write.ensures.asked
+    c.in_err-persist.ensures.err c.persist.ensures.asks c.in_err-persist.ensures.asked
 
-pub returns-in_err-persist-clause-images : goal.returns-in_err-persist-clause-images
-returns-in_err-persist-clause-images g c = at_end (returns-in_err-persist-clause-moments g c)
-
-pub returns-clause-sure : goal.returns-clause-sure
-returns-clause-sure g c = sure_kept (g.R.Region.seen c.write.new.self) c.in_ok-persist.ensures.ok
-
-pub returns-clause-moments : goal.returns-clause-moments
-returns-clause-moments g c =
-    on_persist
-    (extended _ (begun _ _ (set_from_same _ c.args.at c.args.word)) c.in_ok-write.ensures.ok c.write.ensures.steps
-    (set_from_wrote _ c.args.at c.args.word c.requires c.in_ok-write.ensures.ok))
-    c.in_ok-persist.ensures.ok c.persist.ensures.steps
-
-pub returns-clause-images : goal.returns-clause-images
-returns-clause-images g c = at_end (returns-clause-moments g c)
+pub returns-clause-set : goal.returns-clause-set
+returns-clause-set g c =
+    set_whole tt c.requires c.in_ok-write.ensures.ok c.write.ensures.asks c.in_ok-write.ensures.asked
+    c.in_ok-persist.ensures.ok c.persist.ensures.asks c.in_ok-persist.ensures.asked

@@ -1,4 +1,4 @@
-use Rattle.cfs_script.proofs.Cuts.{lines_of-cut, lines_of-last}
+use Rattle.cfs_script.proofs.Lines.{lines_of-cut, lines_of-last}
 use Rattle.cfs_script.proofs.texts.cut_line.Goals as goal
 
 pub returns-in-Some : goal.returns-in-Some

@@ -1,44 +1,87 @@
-use Rattle.std.proofs.Common.{ℕ, ◌∙◌, ◌≡◌, ◌+◌, ◌*◌, ◌/◌, ◌<◌, length, get_or, sym, ap, subst, arith, rules}
+use Rattle.std.proofs.Common.{ℕ, ◌∙◌, ◌≡◌, ◌+◌, ◌*◌, ◌/◌, ◌<◌, ◌≤◌, List, length, drop, get_or, refl, sym, ap, arith, rules}
 use Rattle.std.proofs.lemmas.List.{take_rest}
+use Rattle.std.proofs.lemmas.Result.{err_from_is_err_and}
 use Rattle.byteorder.specs.Endian.{little_number}
-use Rattle.cfs_pmem.specs.Images.{words_of}
+use Rattle.cfs_pmem.specs.Images.{wrote}
+use Rattle.cfs_pmem.proofs.WordLemmas.{written_none, written_more, written-size, writes_all, writes_front}
+use Rattle.cfs_slot.specs.Operations.{payload_words}
 use Rattle.cfs_slot.specs.Staging.{words_for}
-use Rattle.cfs_slot.specs.Writing.{HasWritten, payload_words}
-use Rattle.cfs_slot.proofs.PayloadLemmas.{payload_words_at, holds_payload}
-use Rattle.cfs_slot.proofs.WritingLemmas.{written_more, stopped_at, on_err}
+use Rattle.cfs_slot.proofs.PayloadLemmas.{length-payload_words, payload_words_at}
 use Rattle.cfs_slot.proofs.staging.write_payload.Goals as goal
 
-pub returns-in_err-write-clause-err : goal.returns-in_err-write-clause-err
-returns-in_err-write-clause-err g c =
-    let n : ℕ = words_for (length c.args.payload.now) in
-    let k : ℕ = length c.args.payload.now / 8 in
-    let more : k < n = omega (arith, c.if-whole-payload.true) in
-    on_err c.from_residual-in_err-write.result
-    (stopped_at 6 (payload_words n c.args.payload.now) k n _ _ _ _ _ _ more c.in_ok-write_whole_words.ensures.ok c.in_err-write.ensures.err c.write.ensures.steps)
+-- the words of a payload fit in a slot
+fits : (payload : List ℕ) (room : ℕ) → length payload ≤ 4096 → room ≡ 518 → 6 + length (payload_words (words_for (length payload)) payload) ≤ room
+fits payload room few size = omega (arith, length-payload_words (words_for (length payload)) payload)
 
-pub returns-in_ok-write-clause-ok : goal.returns-in_ok-write-clause-ok
-returns-in_ok-write-clause-ok g c =
-    let n : ℕ = words_for (length c.args.payload.now) in
-    let k : ℕ = length c.args.payload.now / 8 in
-    let more : k < n = omega (arith, c.if-whole-payload.true) in
-    let all : k + 1 ≡ n = omega (arith, c.if-whole-payload.true) in
-    let whole = c.in_ok-write_whole_words.ensures.ok in
-    let within : 6 + k < length (words_of (g.R.Region.seen c.write_whole_words.new.region)) = omega (arith, whole.size, c.requires.size, c.requires.within, more) in
-    let word : c.last_word-word.result ≡ get_or (payload_words n c.args.payload.now) k 0 =
-    c.last_word-word.ensures ∙ ap (λ bytes. little_number 8 bytes) (take_rest c.args.payload.now (8 * k)) ∙ sym (payload_words_at n k c.args.payload.now more) in
-    subst (λ (j : ℕ). HasWritten 6 (payload_words n c.args.payload.now) j (g.P.Power.steps c.args.power.now) (g.R.Region.seen c.args.region.now) (g.P.Power.steps c.write.new.power) (g.R.Region.seen c.write.new.self)) all
-    (written_more 6 (payload_words n c.args.payload.now) k c.last_word-word.result _ _ _ _ _ _ (omega arith) within word whole c.in_ok-write.ensures.ok c.write.ensures.steps)
+pub loop-k-init : goal.loop-k-init
+loop-k-init g c = record {
+  written = written_none g.R.Region.obeys_power 6 (payload_words (words_for (length c.args.payload.now)) c.args.payload.now) _ _;
+  faults = refl;
+}
 
-pub returns-in_ok-write-clause-payload : goal.returns-in_ok-write-clause-payload
-returns-in_ok-write-clause-payload g c =
-    let written = returns-in_ok-write-clause-ok g c in
-    holds_payload c.args.payload.now (words_of (g.R.Region.seen c.write.new.self)) c.requires.within (written.size ∙ c.requires.size)
-    (λ k. let fits = c.type_inv.payload k in search rules)
-    (λ i l. written.written i (omega arith))
+pub write-requires : goal.write-requires
+write-requires g c =
+    omega (arith, written-size (fits c.args.payload.now _ c.requires.few c.requires.size) c.loop-k.invariant.written, c.requires.size, c.requires.few)
 
-pub returns-else-whole-payload-clause-payload : goal.returns-else-whole-payload-clause-payload
-returns-else-whole-payload-clause-payload g c =
-    let whole = c.in_ok-write_whole_words.ensures.ok in
-    holds_payload c.args.payload.now (words_of (g.R.Region.seen c.write_whole_words.new.region)) c.requires.within (whole.size ∙ c.requires.size)
-    (λ k. let fits = c.type_inv.payload k in search rules)
-    (λ i l. whole.written i (omega (arith, c.if-whole-payload.false)))
+pub loop-k-preserved : goal.loop-k-preserved
+loop-k-preserved g c =
+    let payload : List ℕ = c.args.payload.now in
+    let n : ℕ = words_for (length payload) in
+    let more : c.loop-k.k < n = search rules in
+    let within : c.loop-k.k < length (payload_words n payload) = omega (arith, length-payload_words n payload, more) in
+    let word : c.read_u64-word.result ≡ get_or (payload_words n payload) c.loop-k.k 0 =
+    c.read_u64-word.ensures ∙ ap (λ bytes. little_number 8 bytes) (take_rest payload (8 * c.loop-k.k)) ∙ sym (payload_words_at n c.loop-k.k payload more) in
+    record {
+      written = written_more c.read_u64-word.result word within (fits payload _ c.requires.few c.requires.size) c.loop-k.invariant.written
+          c.in_ok-write.ensures.ok c.write.ensures.asks c.in_ok-write.ensures.asked;
+      faults = c.in_ok-write.ensures.cause.passed ∙ c.loop-k.invariant.faults;
+    }
+
+pub returns-in_err-write-clause-written : goal.returns-in_err-write-clause-written
+returns-in_err-write-clause-written g c =
+    let payload : List ℕ = c.args.payload.now in
+    let n : ℕ = words_for (length payload) in
+    let more : c.loop-k.k < n = search rules in
+    let within : c.loop-k.k < length (payload_words n payload) = omega (arith, length-payload_words n payload, more) in
+    let p = err_from_is_err_and c.from_residual.result c.from_residual.ensures.1 in
+    writes_front p.0 p.1 within (fits payload _ c.requires.few c.requires.size) c.loop-k.invariant.written
+    c.in_err-write.ensures.err c.write.ensures.asks c.in_err-write.ensures.asked
+
+pub returns-then-whole-payload-clause-written : goal.returns-then-whole-payload-clause-written
+returns-then-whole-payload-clause-written g c =
+    let payload : List ℕ = c.args.payload.now in
+    let n : ℕ = words_for (length payload) in
+    let past : length (payload_words n payload) ≤ c.loop-k.k = omega (arith, length-payload_words n payload, c.if-whole-payload.true, c.loop-k-test.false) in
+    writes_all tt past (fits payload _ c.requires.few c.requires.size) c.loop-k.invariant.written
+
+-- the last word
+last_is : (payload : List ℕ) (k word : ℕ) → k ≡ length payload / 8 → k < words_for (length payload) → word ≡ little_number 8 (drop (8 * (length payload / 8)) payload)
+    → word ≡ get_or (payload_words (words_for (length payload)) payload) k 0
+last_is payload k word at more is =
+    is ∙ ap (λ (j : ℕ). little_number 8 (drop (8 * j) payload)) (sym at) ∙ sym (payload_words_at (words_for (length payload)) k payload more)
+
+pub returns-in_err-write-2-clause-written : goal.returns-in_err-write-2-clause-written
+returns-in_err-write-2-clause-written g c =
+    let payload : List ℕ = c.args.payload.now in
+    let n : ℕ = words_for (length payload) in
+    let at : c.loop-k.k ≡ length payload / 8 = omega (arith, c.loop-k-test.false, c.loop-k.auto.k-end) in
+    let more : c.loop-k.k < n = omega (arith, at, c.if-whole-payload.false) in
+    let within : c.loop-k.k < length (payload_words n payload) = omega (arith, length-payload_words n payload, more) in
+    let p = err_from_is_err_and c.from_residual-in_err-write-2.result c.from_residual-in_err-write-2.ensures.1 in
+    writes_front p.0 p.1 within (fits payload _ c.requires.few c.requires.size) c.loop-k.invariant.written
+    c.in_err-write-2.ensures.err c.write-2.ensures.asks c.in_err-write-2.ensures.asked
+
+pub returns-clause-written : goal.returns-clause-written
+returns-clause-written g c =
+    let payload : List ℕ = c.args.payload.now in
+    let n : ℕ = words_for (length payload) in
+    let at : c.loop-k.k ≡ length payload / 8 = omega (arith, c.loop-k-test.false, c.loop-k.auto.k-end) in
+    let more : c.loop-k.k < n = omega (arith, at, c.if-whole-payload.false) in
+    let within : c.loop-k.k < length (payload_words n payload) = omega (arith, length-payload_words n payload, more) in
+    let word : c.last_word-word.result ≡ get_or (payload_words n payload) c.loop-k.k 0 =
+    last_is payload c.loop-k.k c.last_word-word.result at more (c.last_word-word.ensures ∙ ap (λ bytes. little_number 8 bytes) (take_rest payload (8 * (length payload / 8)))) in
+    let place : 6 + c.loop-k.k ≡ 6 + length payload / 8 = omega (arith, at) in
+    let past : length (payload_words n payload) ≤ c.loop-k.k + 1 = omega (arith, length-payload_words n payload, at) in
+    writes_all tt past (fits payload _ c.requires.few c.requires.size)
+    (written_more c.last_word-word.result word within (fits payload _ c.requires.few c.requires.size) c.loop-k.invariant.written
+    (c.in_ok-write-2.ensures.ok ∙ ap (λ (j : ℕ). wrote j c.last_word-word.result (g.R.Region.seen c.loop-k.region)) (sym place)) c.write-2.ensures.asks c.in_ok-write-2.ensures.asked)

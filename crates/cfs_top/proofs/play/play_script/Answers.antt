@@ -16,4 +16,4 @@ returns-in_err-play_line-clause-front g c =
     let front = PlaysFront-more _ _ (drop (c.lines.line-index + 1) items) _ _
     (PlaysFront-behind _ _ _ _ _ _ _ c.lines.invariant.played c.in_err-play_line.ensures.front) in
     let whole = around items c.lines.line-index c.line-item.result c.lines-test.true c.line-item.is in
-    on_err _ _ (rw (whole, c.lines-line-items.ensures) at front)
+    on_err _ _ (rw (whole, c.lines-line-items.ensures.same) at front)

@@ -18,7 +18,7 @@ content_left c =
     ∙ left.0
 
 pub returns-clause-left : goal.returns-clause-left
-returns-clause-left c = ap (λ (h : List BlockStep). record { device = c.args.self.now.device; history = h }) (c.of.ensures ∙ ap (λ (x : Content). flushed x ∷ []) (content_left c))
+returns-clause-left c = ap (λ (h : List BlockStep). record { device = c.args.self.now.device; also = []; history = h }) (c.of.ensures ∙ ap (λ (x : Content). flushed x ∷ []) (content_left c))
 
 pub returns-clause-image : goal.returns-clause-image
 returns-clause-image c =

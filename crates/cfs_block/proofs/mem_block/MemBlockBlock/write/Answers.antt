@@ -1,11 +1,11 @@
 use Rattle.std.proofs.Common.{length}
-use Rattle.cfs_block.proofs.MemBlocks.{backed_ranged, backed_torn, torn_leaves}
+use Rattle.cfs_block.proofs.MemBlocks.{backed_ranged, backed_torn, write_fails}
 use Rattle.cfs_block.proofs.mem_block.MemBlockBlock.write.Goals as goal
 
 pub returns-then-not-step-clause-err : goal.returns-then-not-step-clause-err
 returns-then-not-step-clause-err g c =
     rw c.range.ensures
-    (torn_leaves c.args.self.now.history c.args.self.now.dirty record { tag = c.args.self.now.durable_tag; bytes = c.args.self.now.durable.items }
+    (write_fails _ c.args.self.now.history c.args.self.now.dirty record { tag = c.args.self.now.durable_tag; bytes = c.args.self.now.durable.items }
     record { tag = c.args.self.now.tag; bytes = c.args.self.now.present.items } c.args.self.now.written.items c.args.self.now.device c.args.from (length c.args.bytes.now)
     c.args.self.now.backed c.requires)
 

@@ -8,7 +8,7 @@ invariant_of-self c =
 pub invariant_of-self-2 : goal.invariant_of-self-2
 invariant_of-self-2 c =
     IsNumbered-put c.self.inside.by_number c.insert.new.self c.self.inside.numbers.items c.args.self.now c.args.node.now
-    c.self.invariant c.self.view_is c.requires.unused c.in_ok-insert.ensures.updates.0
+    c.self.invariant c.self.view_is c.requires.unused c.in_ok-insert.ensures.updates.0 c.requires.within c.requires.free
 
 pub returns-clause-put : goal.returns-clause-put
 returns-clause-put c =

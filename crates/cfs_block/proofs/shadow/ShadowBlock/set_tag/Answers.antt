@@ -1,0 +1,6 @@
+use Rattle.cfs_block.proofs.ShadowLemmas.{asks_both}
+use Rattle.cfs_block.proofs.shadow.ShadowBlock.set_tag.Goals as goal
+
+pub returns-clause-asks : goal.returns-clause-asks
+returns-clause-asks g c =
+    asks_both (g.A.Block.seen c.args.self.now.first) (g.B.Block.seen c.args.self.now.second) c.set_tag.ensures.asks c.set_tag-2.ensures.asks

@@ -1,0 +1,5 @@
+pub mod Records
+pub mod Appends
+pub mod Standing
+pub mod Journals
+pub mod Distinct

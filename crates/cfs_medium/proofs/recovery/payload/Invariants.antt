@@ -1,6 +1,0 @@
-use Rattle.std.proofs.Common.{◌≡◌, ◌++◌, drop}
-use Rattle.cfs_slot.specs.Words.{bytes_of}
-use Rattle.cfs_medium.proofs.recovery.payload.Given as goal
-
-abbrev pub invariant-loop-word : goal.invariant-loop-word
-invariant-loop-word l = l.bytes.items ++ bytes_of (drop l.word-index l.word-items) ≡ bytes_of l.word-items

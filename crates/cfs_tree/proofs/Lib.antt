@@ -1,0 +1,9 @@
+pub mod Standing
+pub mod Turning
+pub mod Ranked
+pub mod Changing
+pub mod Removing
+pub mod Kept
+pub mod Holding
+pub mod Searching
+pub mod Lists

@@ -1,0 +1,10 @@
+pub mod Cuts
+pub mod Numbers
+pub mod Joins
+pub mod Paths
+pub mod Hexes
+pub mod Payloads
+pub mod Letters
+pub mod Taking
+pub mod Prints
+pub mod Graphics

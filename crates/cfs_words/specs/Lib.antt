@@ -1,0 +1,5 @@
+pub mod Parts
+pub mod Values
+pub mod Spelling
+pub mod Printing
+pub mod Reading
