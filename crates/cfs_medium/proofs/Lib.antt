@@ -7,3 +7,6 @@ pub mod Recovered
 pub mod Slots
 mod Tails
 pub mod Sorted
+pub mod Left
+pub mod StoredLeft
+pub mod LiveLeft

@@ -21,11 +21,11 @@ use Rattle.cfs_medium.proofs.Sorted.{by_gate-rising, gates, one_gate}
 
 -- entries as pairs of their place and their request
 
-taken_through-entries : (file : List ℕ) (entries : List Entry) → taken_through file (map (λ e. (e.place, e.request)) entries) ≡ file_of file entries
+pub taken_through-entries : (file : List ℕ) (entries : List Entry) → taken_through file (map (λ e. (e.place, e.request)) entries) ≡ file_of file entries
 taken_through-entries file [] = refl
 taken_through-entries file (entry ∷ entries) = taken_through-entries (effect file entry.request) entries
 
-rises-entries : (low : ℕ) (entries : List Entry) → Rises low (map (λ e. e.place) entries) → Rises low (gates (map (λ e. (e.place, e.request)) entries))
+pub rises-entries : (low : ℕ) (entries : List Entry) → Rises low (map (λ e. e.place) entries) → Rises low (gates (map (λ e. (e.place, e.request)) entries))
 rises-entries low [] rises = tt
 rises-entries low (entry ∷ entries) rises = (rises.0, rises-entries (entry.place + 1) entries rises.1)
 

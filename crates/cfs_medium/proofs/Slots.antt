@@ -32,14 +32,14 @@ cons_option-has (Some first) xs e h = elim h [
 abbrev StandsFrom : (ℕ → Option (ℕ × Request)) → ℕ → ℕ × Request → Type 0
 StandsFrom entry a e = (at : ℕ) × ((a ≤ at) × (entry at ≡ Some e))
 
-among-stands : (entry : ℕ → Option (ℕ × Request)) (n a : ℕ) (e : ℕ × Request) → Has (filter_map entry (range_with_len a n)) e → StandsFrom entry a e
+pub among-stands : (entry : ℕ → Option (ℕ × Request)) (n a : ℕ) (e : ℕ × Request) → Has (filter_map entry (range_with_len a n)) e → StandsFrom entry a e
 among-stands entry zero a e h = absurd h
 among-stands entry (suc n) a e h = elim (has-cons_option (entry a) (filter_map entry (range_with_len (a + 1) n)) e h) [
   | inl here ↦ (a, (omega arith, here))
   | inr more ↦ let later = among-stands entry n (a + 1) e more in (later.0, (omega (arith, later.1.0), later.1.1))
 ]
 
-stands-among : (entry : ℕ → Option (ℕ × Request)) (n a at : ℕ) (e : ℕ × Request) → a ≤ at → at < a + n → entry at ≡ Some e → Has (filter_map entry (range_with_len a n)) e
+pub stands-among : (entry : ℕ → Option (ℕ × Request)) (n a at : ℕ) (e : ℕ × Request) → a ≤ at → at < a + n → entry at ≡ Some e → Has (filter_map entry (range_with_len a n)) e
 stands-among entry zero a at e low high is = absurd (omega arith)
 stands-among entry (suc n) a at e low high is =
     cons_option-has (entry a) (filter_map entry (range_with_len (a + 1) n)) e (elim (cases_lt a at) [
@@ -52,7 +52,7 @@ apart-cons_option : (o : Option (ℕ × Request)) (xs : List (ℕ × Request)) �
 apart-cons_option None xs apart other = apart
 apart-cons_option (Some first) xs apart other = (λ e among same. other first e refl among same, apart)
 
-among-apart : (entry : ℕ → Option (ℕ × Request)) (n a : ℕ) →
+pub among-apart : (entry : ℕ → Option (ℕ × Request)) (n a : ℕ) →
     ((first second : ℕ) (x y : ℕ × Request) → entry first ≡ Some x → entry second ≡ Some y → x.0 ≡ y.0 → first ≡ second) →
     AreApart (filter_map entry (range_with_len a n))
 among-apart entry zero a once = tt
@@ -73,7 +73,7 @@ same-among f g same (suc n) a =
 
 -- ---- the slots of a store
 
-not_live-none : (ino : ℕ) (words : List ℕ) (tails : List (List ℕ)) → is_live ino words ≡ false → live_entry ino words tails ≡ None
+pub not_live-none : (ino : ℕ) (words : List ℕ) (tails : List (List ℕ)) → is_live ino words ≡ false → live_entry ino words tails ≡ None
 not_live-none ino words tails is = ap (λ (b : Bool). if b then Some (gate_of words, request_of words tails) else None) is
 
 past-none : (ino : ℕ) (slots : List (List ℕ)) (at : ℕ) → length slots ≤ at → entry_at ino slots at ≡ None

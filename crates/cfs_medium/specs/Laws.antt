@@ -1,5 +1,5 @@
 -- What a store that depicts an image recovers, and what is no matter to an inode.
-use Rattle.std.specs.Prelude.{◌≡◌, ◌≢◌, ℕ, ◌+◌, ◌*◌, ◌/◌, ◌<◌, true, false, None, List, [], ◌++◌, map, get_or, set}
+use Rattle.std.specs.Prelude.{◌≡◌, ◌≢◌, ℕ, ◌+◌, ◌*◌, ◌/◌, ◌<◌, ◌≤◌, true, false, None, List, [], ◌++◌, length, map, get_or, set}
 use Rattle.std.specs.List.{Contains}
 use Rattle.cfs_file.specs.Log.{file_of}
 use Rattle.cfs_file.specs.declared.sizes.TheConstants.{FILE_BLOCKS}
@@ -7,7 +7,7 @@ use Rattle.cfs_core.specs.declared.event.Event.{Event}
 use Rattle.cfs_core.specs.declared.image.Image.{Image}
 use Rattle.cfs_core.specs.declared.inode_core.Core.{Core}
 use Rattle.cfs_core.specs.Fresh.{IsEmpty, IsFresh}
-use Rattle.cfs_core.specs.Good.{Rises}
+use Rattle.cfs_core.specs.Good.{IsGood, Rises}
 use Rattle.cfs_core.specs.Medium.{in_doubt, is_image, live_entries, recovered, stored}
 use Rattle.cfs_core.specs.Run.{IsRun, after_all}
 use Rattle.cfs_slot.specs.Words.{is_live, tails_of}
@@ -15,6 +15,8 @@ use Rattle.cfs_slot.specs.Tails.{numbers_in}
 use Rattle.cfs_block.specs.BlockImages.{Content}
 use Rattle.cfs_medium.specs.Store.{Store, entry_at, live_in, recovered_file, stored_file, tag_of}
 use Rattle.cfs_medium.specs.Depicts.{Depicts, content_at}
+use Rattle.cfs_medium.specs.Shows.{Shows, is_doubt_open}
+use Rattle.cfs_medium.specs.World.{AllRemains, World, recovered_of}
 
 -- A store that depicts an image stores the file that the image stores. Where the gates of the image's live
 -- entries rise, it recovers the file that the image recovers.
@@ -68,3 +70,12 @@ EmptyStoresDepict =
     (ino : ℕ) (store : Store) (core : Core) (image : Image) → IsEmpty core → is_image core image ≡ true → store.size ≡ 0 →
     ((at : ℕ) → entry_at ino store.slots at ≡ None) → ((at : ℕ) → IsOfOthers ino (content_at store.blocks at).tag) →
     Depicts ino store core image
+
+-- Where the devices of an inode show a good core, whatever a crash leaves of them recovers the file
+-- after the log, and then the request in doubt exactly where its gate was left open.
+abbrev pub ShownWorldsRecover : Type 0
+ShownWorldsRecover =
+    (ino n : ℕ) (core : Core) (world : World) → IsGood core → Shows ino core world →
+    length core.log + 2 ≤ n →
+    AllRemains world (λ remains. recovered_of ino remains n ≡
+    file_of core.base (core.log ++ in_doubt core.doubt (is_doubt_open core.doubt remains)))

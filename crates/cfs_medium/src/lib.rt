@@ -8,7 +8,7 @@
 
 mod recovery;
 
-ghost use Rattle.cfs_medium.specs.Laws.{BlocksOfOthersStay, DepictedStoresRecover, EmptyStoresDepict, RunsAreRecovered, SlotsOfOthersStay, TagsAreApart};
+ghost use Rattle.cfs_medium.specs.Laws.{BlocksOfOthersStay, DepictedStoresRecover, EmptyStoresDepict, RunsAreRecovered, ShownWorldsRecover, SlotsOfOthersStay, TagsAreApart};
 
 pub use recovery::{BlockFound, recover};
 
@@ -36,6 +36,12 @@ pub fn blocks_of_others_stay()
 /// Tags of different inodes differ, and no inode has the tag of a free block.
 pub fn tags_are_apart()
     ensures { TagsAreApart }
+{}
+
+/// Where the devices of an inode show a good core, whatever a crash leaves of them recovers the file
+/// after the log, and then the request in doubt exactly where its gate was left open.
+pub fn shown_worlds_recover()
+    ensures { ShownWorldsRecover }
 {}
 
 /// A store that has nothing of an inode depicts the core of an empty file.
