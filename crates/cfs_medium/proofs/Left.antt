@@ -1,4 +1,4 @@
--- Whatever a crash leaves of devices that show a core is one of the core's images.
+-- What fits a core is one of its images.
 use Rattle.std.proofs.Common.{◌≡◌, inl, inr, ℕ, ◌+◌, ◌-◌, ◌*◌, ◌/◌, ◌%◌, ◌<◌, ◌≤◌, ◌==◌, Bool, true, false, ◌||◌, if◌then◌else◌, Option, Some, None, List, [], length, map, get_or, arith, refl, sym, ap, subst, ◌∙◌}
 use Rattle.std.specs.List.{range_with_len}
 use Rattle.std.proofs.lemmas.Bool.{cases_lt}
@@ -17,8 +17,8 @@ use Rattle.cfs_core.proofs.Images.{all_in_range}
 use Rattle.cfs_core.proofs.Legal.{and_all, or_right, same_number}
 use Rattle.cfs_slot.specs.Words.{mark_of}
 use Rattle.cfs_block.specs.BlockImages.{Content}
-use Rattle.cfs_medium.specs.World.{MayRemain, Remains, World, head_words}
-use Rattle.cfs_medium.specs.Shows.{Shows, SlotFits, doubted, holding, is_doubt_open, is_for, is_gated, logged_at}
+use Rattle.cfs_medium.specs.World.{Remains, head_words}
+use Rattle.cfs_medium.specs.Shows.{HasShape, RemainsFit, SlotFits, doubted, holding, is_doubt_open, is_for, is_gated, logged_at}
 
 -- ---- the image
 
@@ -129,11 +129,11 @@ mark-can core (Some d) ino place slots fits = test (d.entry.place == place) refl
         rw is at fits in
         rw is (own-can core ino place slots own)
 
-doubt-can : (core : Core) (doubt : Option Doubt) (ino : ℕ) (world : World) (remains : Remains) →
+doubt-can : (core : Core) (doubt : Option Doubt) (ino : ℕ) (remains : Remains) →
     ((place : ℕ) → SlotFits ino place (holding core doubt place) (remains.slots place)) →
     can_be (doubt_gate doubt) (is_doubt_open doubt remains) ≡ true
-doubt-can core None ino world remains fits = refl
-doubt-can core (Some d) ino world remains fits =
+doubt-can core None ino remains fits = refl
+doubt-can core (Some d) ino remains fits =
     let own : SlotFits ino d.entry.place (doubted d) (remains.slots d.entry.place) =
     rw (equal_test d.entry.place) at (fits d.entry.place) in
     own.gate
@@ -144,20 +144,15 @@ abbrev pub AllFit : ℕ → Core → Remains → Type 0
 AllFit ino core remains =
     (place : ℕ) → SlotFits ino place (holding core core.doubt place) (remains.slots place)
 
-pub all-fit : (ino : ℕ) (core : Core) (world : World) (remains : Remains) → Shows ino core world →
-    MayRemain world remains → AllFit ino core remains
-all-fit ino core world remains shows may place =
-    shows.slots place (remains.slots place) (may.slots place)
-
 pub tag-left : (ino : ℕ) (core : Core) (remains : Remains) (k : ℕ) → k < length core.tags →
     get_or (tags_left ino core remains) k false ≡ is_set_at ino remains k
 tag-left ino core remains k within =
     get_or-map-range_with_len (is_set_at ino remains) 0 (length core.tags) k k false within
     (omega arith)
 
-tags-are : (ino : ℕ) (core : Core) (world : World) (remains : Remains) → Shows ino core world →
-    MayRemain world remains → agree core.tags (tags_left ino core remains) ≡ true
-tags-are ino core world remains shows may = and_all _ _
+tags-are : (ino : ℕ) (core : Core) (remains : Remains) → HasShape core →
+    RemainsFit ino core remains → agree core.tags (tags_left ino core remains) ≡ true
+tags-are ino core remains shape fits = and_all _ _
     (rw (length-map-range_with_len (is_set_at ino remains) 0 (length core.tags))
     (equal_test (length core.tags)))
     (all_in_range (λ k. can_be (get_or core.tags k Off)
@@ -168,13 +163,13 @@ tags-are ino core world remains shows may = and_all _ _
         can_be (get_or core.tags k Off) (get_or (tags_left ino core remains) k false) ≡ true
     tag k within =
         rw (tag-left ino core remains k within)
-        ((shows.blocks k (omega (arith, shows.tags))).images (remains.blocks k) (may.blocks k)).tag_is
+        (fits.blocks k (omega (arith, shape.tags))).tag_is
 
 -- a byte that is not loose is the core's
-pub firm-byte : (ino : ℕ) (core : Core) (world : World) (remains : Remains) → Shows ino core world →
-    MayRemain world remains → (p : ℕ) → is_loose core.loose p ≡ false →
+pub firm-byte : (ino : ℕ) (core : Core) (remains : Remains) → HasShape core →
+    RemainsFit ino core remains → (p : ℕ) → is_loose core.loose p ≡ false →
     byte_left ino core remains p ≡ get_or core.bytes p 0
-firm-byte ino core world remains shows may p firm =
+firm-byte ino core remains shape fits p firm =
     test (get_or (tags_left ino core remains) (p / BLOCK_LEN) false) refl
   where
     position : BLOCK_LEN * (p / BLOCK_LEN) + p % BLOCK_LEN ≡ p
@@ -183,11 +178,9 @@ firm-byte ino core world remains shows may p firm =
     mapped : p / BLOCK_LEN < length core.tags → is_set_at ino remains (p / BLOCK_LEN) ≡ true →
         get_or (remains.blocks (p / BLOCK_LEN)).bytes (p % BLOCK_LEN) 0 ≡ get_or core.bytes p 0
     mapped within is =
-        let fits = (shows.blocks (p / BLOCK_LEN) (omega (arith, shows.tags))).images
-        (remains.blocks (p / BLOCK_LEN)) (may.blocks (p / BLOCK_LEN)) in
         let own : is_loose core.loose (BLOCK_LEN * (p / BLOCK_LEN) + p % BLOCK_LEN) ≡ false =
         rw position firm in
-        fits.bytes_are is (p % BLOCK_LEN) (omega arith) own
+        (fits.blocks (p / BLOCK_LEN) (omega (arith, shape.tags))).bytes_are is (p % BLOCK_LEN) (omega arith) own
         ∙ ap (λ (q : ℕ). get_or core.bytes q 0) position
 
     test : (b : Bool) → get_or (tags_left ino core remains) (p / BLOCK_LEN) false ≡ b →
@@ -206,10 +199,10 @@ firm-byte ino core world remains shows may p firm =
           cc
     ]
 
-bytes-are : (ino : ℕ) (core : Core) (world : World) (remains : Remains) → Shows ino core world →
-    MayRemain world remains →
+bytes-are : (ino : ℕ) (core : Core) (remains : Remains) → HasShape core →
+    RemainsFit ino core remains →
     bytes_agree core (left ino core remains).bytes ≡ true
-bytes-are ino core world remains shows may = and_all _ _
+bytes-are ino core remains shape fits = and_all _ _
     (rw (length-map-range_with_len (byte_left ino core remains) 0 (length core.bytes))
     (equal_test (length core.bytes)))
     (all_in_range (λ p. is_loose core.loose p
@@ -224,12 +217,12 @@ bytes-are ino core world remains shows may = and_all _ _
         let byte : get_or (left ino core remains).bytes p 0 ≡ get_or core.bytes p 0 =
         get_or-map-range_with_len (byte_left ino core remains) 0 (length core.bytes) p p 0 within
         (omega arith)
-        ∙ firm-byte ino core world remains shows may p is in
+        ∙ firm-byte ino core remains shape fits p is in
         or_right (is_loose core.loose p) _ (rw byte (equal_test (get_or core.bytes p 0)))
 
-gates-are : (ino : ℕ) (core : Core) (world : World) (remains : Remains) → Shows ino core world →
-    MayRemain world remains → gates_agree core.tracks (left ino core remains).gates ≡ true
-gates-are ino core world remains shows may = and_all _ _
+gates-are : (ino : ℕ) (core : Core) (remains : Remains) → HasShape core →
+    RemainsFit ino core remains → gates_agree core.tracks (left ino core remains).gates ≡ true
+gates-are ino core remains shape fits = and_all _ _
     (rw (length-map-range_with_len (gate_at core remains) 0 (length core.tracks))
     (equal_test (length core.tracks)))
     (all_in_range (λ k. can_be (get_or core.tracks k blank).gate
@@ -241,15 +234,15 @@ gates-are ino core world remains shows may = and_all _ _
         ≡ true
     gate k within =
         let own = gate-can core core.doubt ino (k + 1) (remains.slots (k + 1))
-        (all-fit ino core world remains shows may (k + 1))
-        (λ d is. (shows.doubt d is).apart) in
+        (fits.slots (k + 1))
+        (λ d is. (shape.doubt d is).apart) in
         rw (get_or-map-range_with_len (gate_at core remains) 0 (length core.tracks) k k false within
         (omega arith))
         (rw (track-next core k) at own)
 
-marks-are : (ino : ℕ) (core : Core) (world : World) (remains : Remains) → Shows ino core world →
-    MayRemain world remains → marks_agree core.tracks (left ino core remains).marks ≡ true
-marks-are ino core world remains shows may = and_all _ _
+marks-are : (ino : ℕ) (core : Core) (remains : Remains) → HasShape core →
+    RemainsFit ino core remains → marks_agree core.tracks (left ino core remains).marks ≡ true
+marks-are ino core remains shape fits = and_all _ _
     (rw (length-map-range_with_len (mark_at core remains) 0 (length core.tracks))
     (equal_test (length core.tracks)))
     (all_in_range (λ k. can_be (get_or core.tracks k blank).mark
@@ -261,18 +254,17 @@ marks-are ino core world remains shows may = and_all _ _
         ≡ true
     mark k within =
         let own = mark-can core core.doubt ino (k + 1) (remains.slots (k + 1))
-        (all-fit ino core world remains shows may (k + 1)) in
+        (fits.slots (k + 1)) in
         rw (get_or-map-range_with_len (mark_at core remains) 0 (length core.tracks) k k false within
         (omega arith))
         (rw (track-next core k) at own)
 
-pub left-is : (ino : ℕ) (core : Core) (world : World) (remains : Remains) → Shows ino core world →
-    MayRemain world remains → is_image core (left ino core remains) ≡ true
-left-is ino core world remains shows may =
-    and_all _ _ (shows.sizes remains.size may.size)
-    (and_all _ _ (tags-are ino core world remains shows may)
-    (and_all _ _ (bytes-are ino core world remains shows may)
-    (and_all _ _ (gates-are ino core world remains shows may)
-    (and_all _ _ (marks-are ino core world remains shows may)
-    (doubt-can core core.doubt ino world remains
-    (all-fit ino core world remains shows may))))))
+pub left-is : (ino : ℕ) (core : Core) (remains : Remains) → HasShape core →
+    RemainsFit ino core remains → is_image core (left ino core remains) ≡ true
+left-is ino core remains shape fits =
+    and_all _ _ fits.size
+    (and_all _ _ (tags-are ino core remains shape fits)
+    (and_all _ _ (bytes-are ino core remains shape fits)
+    (and_all _ _ (gates-are ino core remains shape fits)
+    (and_all _ _ (marks-are ino core remains shape fits)
+    (doubt-can core core.doubt ino remains fits.slots)))))

@@ -1,4 +1,4 @@
--- Of devices that show a core, the live entries that a crash leaves are those of its image.
+-- The live entries of what fits a core are those of its image, so its file is recovered.
 use Rattle.std.proofs.Common.{◌≡◌, ◌⊎◌, inl, inr, ℕ, zero, suc, ◌+◌, ◌-◌, ◌<◌, ◌≤◌, ◌==◌, Bool, true, false, not, ◌&&◌, if◌then◌else◌, cond, Option, Some, None, List, [], ◌∷◌, ◌++◌, length, map, filter, drop, get_or, slice_get, arith, refl, sym, ap, subst, ◌∙◌}
 use Rattle.std.specs.Option.{option_map}
 use Rattle.std.specs.List.{filter_map, range_with_len}
@@ -20,12 +20,12 @@ use Rattle.cfs_core.specs.Words.{blank, can_be, track}
 use Rattle.cfs_core.proofs.Legal.{and_all, both, same_number}
 use Rattle.cfs_slot.specs.Words.{gate_of, ino_of, is_live, live_entry, mark_of, request_of}
 use Rattle.cfs_medium.specs.Depicts.{entries_of}
-use Rattle.cfs_medium.specs.Laws.{ShownWorldsRecover}
-use Rattle.cfs_medium.specs.Shows.{Shows, SlotFits, doubted, entry_of, holding, is_doubt_open, is_gated, logged_at}
+use Rattle.cfs_medium.specs.Laws.{FittingRemainsRecover, ShownWorldsRecover}
+use Rattle.cfs_medium.specs.Shows.{HasShape, RemainsFit, Shows, SlotFits, doubted, entry_of, holding, is_doubt_open, is_gated, logged_at}
 use Rattle.cfs_medium.specs.Store.{by_gate, taken_through}
 use Rattle.cfs_medium.specs.World.{MayRemain, Remains, World, head_words, live_at, live_below, stored_of}
 use Rattle.cfs_medium.proofs.Has.{Has}
-use Rattle.cfs_medium.proofs.Left.{AllFit, all-fit, equal_test, gate_at, gate_left, is_doubted, left, left-is, mark_at, mark_left, own_mark, track-next}
+use Rattle.cfs_medium.proofs.Left.{AllFit, equal_test, gate_at, gate_left, is_doubted, left, left-is, mark_at, mark_left, own_mark, track-next}
 use Rattle.cfs_medium.proofs.Recovered.{rises-entries, taken_through-entries}
 use Rattle.cfs_medium.proofs.Slots.{among-apart, among-stands, stands-among}
 use Rattle.cfs_medium.proofs.Sorted.{by_gate-rising}
@@ -506,22 +506,19 @@ back-doubt ino n core remains (Some d) room fit x h =
 
 -- ---- the whole
 
-live-left : (ino n : ℕ) (core : Core) (world : World) (remains : Remains) → IsGood core →
-    Shows ino core world → length core.log + 2 ≤ n → MayRemain world remains →
+live-left : (ino n : ℕ) (core : Core) (remains : Remains) → IsGood core → HasShape core →
+    RemainsFit ino core remains → length core.log + 2 ≤ n →
     live_below ino remains n ≡ entries_of core (left ino core remains)
-live-left ino n core world remains good shows room may =
+live-left ino n core remains good shape fits room =
     by_gate-rising (filter_map (live_at ino remains) (range_with_len 0 n))
     (entries_of core (left ino core remains)) (among-apart (live_at ino remains) n 0 once)
     (rises-entries 0 (live_entries core (left ino core remains))
-    (good.rises (left ino core remains) (left-is ino core world remains shows may))) into back
+    (good.rises (left ino core remains) (left-is ino core remains shape fits))) into back
   where
-    fit : AllFit ino core remains
-    fit = all-fit ino core world remains shows may
-
     number : (place : ℕ) (e : ℕ × Request) → live_at ino remains place ≡ Some e → e.0 ≡ place
     number place e here =
         let live = live-as ino (head_words (remains.slots place)) (drop 1 (remains.slots place)) e here in
-        ap (λ (p : ℕ × Request). p.0) live.is ∙ (fit place).number live.gated
+        ap (λ (p : ℕ × Request). p.0) live.is ∙ (fits.slots place).number live.gated
 
     once : (first second : ℕ) (x y : ℕ × Request) → live_at ino remains first ≡ Some x →
         live_at ino remains second ≡ Some y → x.0 ≡ y.0 → first ≡ second
@@ -532,10 +529,10 @@ live-left ino n core world remains good shows room may =
         Has (entries_of core (left ino core remains)) e
     into e h =
         let at = among-stands (live_at ino remains) n 0 e h in
-        into-by ino core remains core.doubt refl at.0 e good shows.tracks (fit at.0) at.1.1
+        into-by ino core remains core.doubt refl at.0 e good shape.tracks (fits.slots at.0) at.1.1
 
     doubt_room : (d : Doubt) → core.doubt ≡ Some d → d.entry.place + 1 ≤ n
-    doubt_room d is = omega (arith, room, (shows.doubt d is).to)
+    doubt_room d is = omega (arith, room, (shape.doubt d is).to)
 
     back : (e : ℕ × Request) → Has (entries_of core (left ino core remains)) e →
         Has (filter_map (live_at ino remains) (range_with_len 0 n)) e
@@ -548,16 +545,30 @@ live-left ino n core world remains good shows room may =
               (filter (λ x. is_open (left ino core remains) x.place) core.log) own.0 opened in
               let kept = has-filtered (λ (x : Entry). is_open (left ino core remains) x.place) core.log
               found.0 found.1.0 in
-              rw found.1.1 (opened-live ino n core remains found.0 good shows.tracks room fit kept.0 kept.1)
-          | inr doubt ↦ back-doubt ino n core remains core.doubt doubt_room fit own.0 doubt
+              rw found.1.1 (opened-live ino n core remains found.0 good shape.tracks room fits.slots kept.0 kept.1)
+          | inr doubt ↦ back-doubt ino n core remains core.doubt doubt_room fits.slots own.0 doubt
         ])
+
+pub fitting-recovers : FittingRemainsRecover
+fitting-recovers ino n core remains good shape fits room =
+    ap (λ (f : List ℕ). taken_through f (live_below ino remains n))
+    (stored-left ino core remains shape fits)
+    ∙ (ap (taken_through (stored (left ino core remains)))
+    (live-left ino n core remains good shape fits room)
+    ∙ (taken_through-entries (stored (left ino core remains))
+    (live_entries core (left ino core remains))
+    ∙ good.recovers (left ino core remains) (left-is ino core remains shape fits)))
+
+pub shown-fits : (ino : ℕ) (core : Core) (world : World) (remains : Remains) → Shows ino core world →
+    MayRemain world remains → RemainsFit ino core remains
+shown-fits ino core world remains shows may = record {
+  size = shows.sizes remains.size may.size;
+  slots = λ place. shows.slots place (remains.slots place) (may.slots place);
+  blocks = λ block within. (shows.blocks block within).images (remains.blocks block)
+      (may.blocks block);
+}
 
 pub shown-recovers : ShownWorldsRecover
 shown-recovers ino n core world good shows room remains may =
-    ap (λ (f : List ℕ). taken_through f (live_below ino remains n))
-    (stored-left ino core world remains shows may)
-    ∙ (ap (taken_through (stored (left ino core remains)))
-    (live-left ino n core world remains good shows room may)
-    ∙ (taken_through-entries (stored (left ino core remains))
-    (live_entries core (left ino core remains))
-    ∙ good.recovers (left ino core remains) (left-is ino core world remains shows may)))
+    fitting-recovers ino n core remains good shows.shape (shown-fits ino core world remains shows may)
+    room

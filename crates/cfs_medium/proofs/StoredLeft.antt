@@ -1,4 +1,4 @@
--- Of devices that show a core, whatever a crash leaves stores what its image stores.
+-- What fits a core stores what its image stores.
 use Rattle.std.proofs.Common.{◌≡◌, ◌⊎◌, inl, inr, ℕ, ◌+◌, ◌*◌, ◌/◌, ◌%◌, ◌<◌, ◌≤◌, Bool, true, false, if◌then◌else◌, Some, None, List, [], length, map, get_or, arith, refl, sym, ap, subst, ◌∙◌}
 use Rattle.std.specs.List.{Contains, range_with_len}
 use Rattle.std.proofs.lemmas.Bool.{cases_lt}
@@ -13,8 +13,8 @@ use Rattle.cfs_core.proofs.Legal.{same_number}
 use Rattle.cfs_block.specs.BlockImages.{Content}
 use Rattle.cfs_medium.specs.Store.{Store, entry_at, tag_of}
 use Rattle.cfs_medium.specs.Depicts.{Depicts, IsFor, content_at, entries_of}
-use Rattle.cfs_medium.specs.World.{MayRemain, Remains, World, stored_of}
-use Rattle.cfs_medium.specs.Shows.{Shows, is_for}
+use Rattle.cfs_medium.specs.World.{Remains, stored_of}
+use Rattle.cfs_medium.specs.Shows.{HasShape, RemainsFit, is_for}
 use Rattle.cfs_medium.proofs.Blocks.{stored-same}
 use Rattle.cfs_medium.proofs.Has.{has-contained}
 use Rattle.cfs_medium.proofs.Left.{byte_left, is_set_at, left, tag-left, tags_left}
@@ -46,10 +46,10 @@ content-past remains at past =
     (omega (arith, past, length-map-range_with_len remains.blocks 0 FILE_BLOCKS)))
 
 -- a block that is tagged for a file block is the one that is mapped there
-for-own : (ino : ℕ) (core : Core) (world : World) (remains : Remains) → Shows ino core world →
-    MayRemain world remains → (at block : ℕ) → IsFor ino block (contents_left remains) at →
+for-own : (ino : ℕ) (core : Core) (remains : Remains) → HasShape core →
+    RemainsFit ino core remains → (at block : ℕ) → IsFor ino block (contents_left remains) at →
     (at ≡ block) × ((at < FILE_BLOCKS) × (is_set_at ino remains at ≡ true))
-for-own ino core world remains shows may at block tagged = elim (cases_lt at FILE_BLOCKS) [
+for-own ino core remains shape fits at block tagged = elim (cases_lt at FILE_BLOCKS) [
   | inl within ↦ test within (is_set_at ino remains at) refl
   | inr past ↦ absurd (omega (arith, tagged, content-past remains at past))
 ]
@@ -64,18 +64,18 @@ for-own ino core world remains shows may at block tagged = elim (cases_lt at FIL
         (omega (arith, here, tag, tagged), (within, is))
     test within false is =
         let free : (remains.blocks at).tag ≡ 0 =
-        ((shows.blocks at within).images (remains.blocks at) (may.blocks at)).free is in
+        (fits.blocks at within).free is in
         let tag : (content_at (contents_left remains) at).tag ≡ (remains.blocks at).tag =
         ap (λ (c : Content). c.tag) (content-left remains at within) in
         absurd (omega (arith, free, tag, tagged))
 
 -- its byte is that of the image
-byte-left : (ino : ℕ) (core : Core) (world : World) (remains : Remains) → Shows ino core world →
-    MayRemain world remains → (block k : ℕ) → block < FILE_BLOCKS → k < BLOCK_LEN →
+byte-left : (ino : ℕ) (core : Core) (remains : Remains) → HasShape core →
+    RemainsFit ino core remains → (block k : ℕ) → block < FILE_BLOCKS → k < BLOCK_LEN →
     is_set_at ino remains block ≡ true →
     get_or (remains.blocks block).bytes k 0
     ≡ get_or (left ino core remains).bytes (BLOCK_LEN * block + k) 0
-byte-left ino core world remains shows may block k within below set =
+byte-left ino core remains shape fits block k within below set =
     elim (cases_lt (BLOCK_LEN * block + k) (length core.bytes)) [
       | inl inside ↦
           sym (get_or-map-range_with_len (byte_left ino core remains) 0 (length core.bytes)
@@ -83,7 +83,7 @@ byte-left ino core world remains shows may block k within below set =
       | inr past ↦
           let firm : is_loose core.loose (BLOCK_LEN * block + k) ≡ false =
           not_loose past (is_loose core.loose (BLOCK_LEN * block + k)) refl in
-          ((shows.blocks block within).images (remains.blocks block) (may.blocks block)).bytes_are
+          (fits.blocks block within).bytes_are
           set k below firm
           ∙ (get_or_past core.bytes (BLOCK_LEN * block + k) 0 past
           ∙ sym (get_or_past (left ino core remains).bytes (BLOCK_LEN * block + k) 0
@@ -98,7 +98,7 @@ byte-left ino core world remains shows may block k within below set =
     at_is = omega arith
 
     tag : get_or (tags_left ino core remains) block false ≡ true
-    tag = tag-left ino core remains block (omega (arith, shows.tags)) ∙ set
+    tag = tag-left ino core remains block (omega (arith, shape.tags)) ∙ set
 
     own : byte_left ino core remains (BLOCK_LEN * block + k) ≡ get_or (remains.blocks block).bytes k 0
     own = rw (block_is, at_is, tag) refl
@@ -108,23 +108,23 @@ byte-left ino core world remains shows may block k within below set =
         is_loose core.loose (BLOCK_LEN * block + k) ≡ false
     not_loose past false is = is
     not_loose past true is =
-        absurd (omega (arith, past, shows.loose (BLOCK_LEN * block + k) is))
+        absurd (omega (arith, past, shape.loose (BLOCK_LEN * block + k) is))
 
-depicts-left : (ino : ℕ) (core : Core) (world : World) (remains : Remains) → Shows ino core world →
-    MayRemain world remains → Depicts ino (store_left remains) (bare core) (left ino core remains)
-depicts-left ino core world remains shows may = record {
+depicts-left : (ino : ℕ) (core : Core) (remains : Remains) → HasShape core →
+    RemainsFit ino core remains → Depicts ino (store_left remains) (bare core) (left ino core remains)
+depicts-left ino core remains shape fits = record {
   size_is = refl;
   tags_are =
-      length-map-range_with_len (is_set_at ino remains) 0 (length core.tags) ∙ shows.tags;
+      length-map-range_with_len (is_set_at ino remains) 0 (length core.tags) ∙ shape.tags;
   tagged = λ block within bit. (block, tagged block within
-      (sym (tag-left ino core remains block (omega (arith, shows.tags))) ∙ bit));
+      (sym (tag-left ino core remains block (omega (arith, shape.tags))) ∙ bit));
   is_set = λ at block within tagged.
-      let own = for-own ino core world remains shows may at block tagged in
-      tag-left ino core remains block (omega (arith, shows.tags))
+      let own = for-own ino core remains shape fits at block tagged in
+      tag-left ino core remains block (omega (arith, shape.tags))
       ∙ subst (λ n. is_set_at ino remains n ≡ true) own.0 own.1.1;
   alone = λ first second block within one two.
-      (for-own ino core world remains shows may first block one).0
-      ∙ sym (for-own ino core world remains shows may second block two).0;
+      (for-own ino core remains shape fits first block one).0
+      ∙ sym (for-own ino core remains shape fits second block two).0;
   bytes_are = λ at block k within tagged below. bytes at block k within tagged below;
   live = λ at entry is. cc;
   held = λ entry among. absurd (has-contained [] entry among);
@@ -142,15 +142,15 @@ depicts-left ino core world remains shows may = record {
         get_or (content_at (contents_left remains) at).bytes k 0
         ≡ get_or (left ino core remains).bytes (BLOCK_LEN * block + k) 0
     bytes at block k within for_it below =
-        let own = for-own ino core world remains shows may at block for_it in
+        let own = for-own ino core remains shape fits at block for_it in
         let here : content_at (contents_left remains) at ≡ remains.blocks block =
         content-left remains at own.1.0 ∙ ap (λ (n : ℕ). remains.blocks n) own.0 in
         ap (λ (c : Content). get_or c.bytes k 0) here
-        ∙ byte-left ino core world remains shows may block k within below
+        ∙ byte-left ino core remains shape fits block k within below
         (subst (λ n. is_set_at ino remains n ≡ true) own.0 own.1.1)
 
-pub stored-left : (ino : ℕ) (core : Core) (world : World) (remains : Remains) → Shows ino core world →
-    MayRemain world remains → stored_of ino remains ≡ stored (left ino core remains)
-stored-left ino core world remains shows may =
+pub stored-left : (ino : ℕ) (core : Core) (remains : Remains) → HasShape core →
+    RemainsFit ino core remains → stored_of ino remains ≡ stored (left ino core remains)
+stored-left ino core remains shape fits =
     stored-same ino (store_left remains) (bare core) (left ino core remains)
-    (depicts-left ino core world remains shows may)
+    (depicts-left ino core remains shape fits)

@@ -15,8 +15,8 @@ use Rattle.cfs_slot.specs.Tails.{numbers_in}
 use Rattle.cfs_block.specs.BlockImages.{Content}
 use Rattle.cfs_medium.specs.Store.{Store, entry_at, live_in, recovered_file, stored_file, tag_of}
 use Rattle.cfs_medium.specs.Depicts.{Depicts, content_at}
-use Rattle.cfs_medium.specs.Shows.{Shows, is_doubt_open}
-use Rattle.cfs_medium.specs.World.{AllRemains, World, recovered_of}
+use Rattle.cfs_medium.specs.Shows.{HasShape, Recovers, RemainsFit, Shows}
+use Rattle.cfs_medium.specs.World.{AllRemains, Remains, World}
 
 -- A store that depicts an image stores the file that the image stores. Where the gates of the image's live
 -- entries rise, it recovers the file that the image recovers.
@@ -71,11 +71,15 @@ EmptyStoresDepict =
     ((at : ℕ) → entry_at ino store.slots at ≡ None) → ((at : ℕ) → IsOfOthers ino (content_at store.blocks at).tag) →
     Depicts ino store core image
 
--- Where the devices of an inode show a good core, whatever a crash leaves of them recovers the file
--- after the log, and then the request in doubt exactly where its gate was left open.
+-- What fits a good core recovers its file: the one after the log, and then the request in doubt
+-- exactly where its gate was left open.
+abbrev pub FittingRemainsRecover : Type 0
+FittingRemainsRecover =
+    (ino n : ℕ) (core : Core) (remains : Remains) → IsGood core → HasShape core →
+    RemainsFit ino core remains → length core.log + 2 ≤ n → Recovers ino n core remains
+
+-- So where the devices of an inode show a good core, a crash leaves that file, whatever it leaves.
 abbrev pub ShownWorldsRecover : Type 0
 ShownWorldsRecover =
     (ino n : ℕ) (core : Core) (world : World) → IsGood core → Shows ino core world →
-    length core.log + 2 ≤ n →
-    AllRemains world (λ remains. recovered_of ino remains n ≡
-    file_of core.base (core.log ++ in_doubt core.doubt (is_doubt_open core.doubt remains)))
+    length core.log + 2 ≤ n → AllRemains world (Recovers ino n core)

@@ -1,8 +1,9 @@
 -- When the devices of an inode show a core: each image of each of them fits it.
-use Rattle.std.specs.Prelude.{ℕ, ◌+◌, ◌-◌, ◌*◌, ◌≤◌, ◌<◌, ◌≡◌, ◌==◌, Bool, true, false, not, Option, Some, None, List, [], length, drop, get_or, slice_get, if◌then◌else◌}
+use Rattle.std.specs.Prelude.{ℕ, ◌+◌, ◌-◌, ◌*◌, ◌≤◌, ◌<◌, ◌≡◌, ◌==◌, Bool, true, false, not, Option, Some, None, List, [], ◌++◌, length, drop, get_or, slice_get, if◌then◌else◌}
 use Rattle.std.specs.Option.{option_map}
 use Rattle.cfs_file.specs.declared.entry.Entry.{Entry}
 use Rattle.cfs_file.specs.declared.request.Request.{Request}
+use Rattle.cfs_file.specs.Log.{file_of}
 use Rattle.cfs_file.specs.declared.sizes.TheConstants.{BLOCK_LEN, FILE_BLOCKS}
 use Rattle.cfs_core.specs.declared.doubt.Doubt.{Doubt}
 use Rattle.cfs_core.specs.declared.flag.Flag.{Flag}
@@ -11,13 +12,13 @@ use Rattle.cfs_core.specs.declared.stretch.Stretch.{Stretch}
 use Rattle.cfs_core.specs.declared.track.Track.{Track}
 use Rattle.cfs_core.specs.declared.inode_core.Core.{Core}
 use Rattle.cfs_core.specs.Words.{can_be, track}
-use Rattle.cfs_core.specs.Medium.{is_loose, is_size, placed}
+use Rattle.cfs_core.specs.Medium.{in_doubt, is_loose, is_size, placed}
 use Rattle.cfs_pmem.specs.Images.{Seen, WordStep, IsImage, words_of}
 use Rattle.cfs_pmem.specs.Objects.{IsEachImage}
 use Rattle.cfs_block.specs.BlockImages.{BlockStep, Content, content_of}
 use Rattle.cfs_slot.specs.Words.{gate_of, ino_of, mark_of, request_of}
 use Rattle.cfs_medium.specs.Store.{tag_of}
-use Rattle.cfs_medium.specs.World.{World, Remains, IsImageAt, head_words}
+use Rattle.cfs_medium.specs.World.{World, Remains, IsImageAt, head_words, recovered_of}
 
 -- ---- slots
 
@@ -106,12 +107,24 @@ pub record DoubtFits (core : Core) (doubt : Doubt) : Type 0 where
   pub to : doubt.entry.place ≤ length core.log + 1
   pub apart : (track core.tracks doubt.entry.place).gate ≡ Off
 
-pub record Shows (ino : ℕ) (core : Core) (world : World) : Type 0 where
+-- the lengths of a core's lists, its request in doubt, and its loose positions, which are of its bytes
+pub record HasShape (core : Core) : Type 0 where
   pub tags : length core.tags ≡ FILE_BLOCKS
   pub tracks : length core.tracks ≡ length core.log
   pub doubt : (doubt : Doubt) → core.doubt ≡ Some doubt → DoubtFits core doubt
-  -- a loose position is one of the core's bytes
   pub loose : (position : ℕ) → is_loose core.loose position ≡ true → position < length core.bytes
+
+-- What a crash left fits the core.
+pub record RemainsFit (ino : ℕ) (core : Core) (remains : Remains) : Type 0 where
+  pub size : is_size core (get_or remains.size 0 0) ≡ true
+  pub slots : (place : ℕ) →
+      SlotFits ino place (holding core core.doubt place) (remains.slots place)
+  pub blocks : (block : ℕ) → block < FILE_BLOCKS →
+      BlockFits ino block (get_or core.tags block Off) core.loose core.bytes (remains.blocks block)
+
+-- Each image of each device fits the core, and so does what is read of it now.
+pub record Shows (ino : ℕ) (core : Core) (world : World) : Type 0 where
+  pub shape : HasShape core
   pub sizes : (words : List ℕ) → IsImage world.size.history words →
       is_size core (get_or words 0 0) ≡ true
   pub size_now : get_or (words_of world.size) 0 0 ≡ core.size
@@ -123,3 +136,10 @@ pub record Shows (ino : ℕ) (core : Core) (world : World) : Type 0 where
 abbrev pub is_doubt_open : Option Doubt → Remains → Bool
 is_doubt_open None remains = false
 is_doubt_open (Some doubt) remains = is_gated (head_words (remains.slots doubt.entry.place))
+
+-- A mount finds the file after the log, and then the request in doubt exactly where its gate was
+-- left open. Numbers below n are looked at.
+abbrev pub Recovers : ℕ → ℕ → Core → Remains → Type 0
+Recovers ino n core remains =
+    recovered_of ino remains n
+    ≡ file_of core.base (core.log ++ in_doubt core.doubt (is_doubt_open core.doubt remains))

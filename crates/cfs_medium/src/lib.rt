@@ -8,7 +8,7 @@
 
 mod recovery;
 
-ghost use Rattle.cfs_medium.specs.Laws.{BlocksOfOthersStay, DepictedStoresRecover, EmptyStoresDepict, RunsAreRecovered, ShownWorldsRecover, SlotsOfOthersStay, TagsAreApart};
+ghost use Rattle.cfs_medium.specs.Laws.{BlocksOfOthersStay, DepictedStoresRecover, EmptyStoresDepict, FittingRemainsRecover, RunsAreRecovered, ShownWorldsRecover, SlotsOfOthersStay, TagsAreApart};
 
 pub use recovery::{BlockFound, recover};
 
@@ -38,8 +38,13 @@ pub fn tags_are_apart()
     ensures { TagsAreApart }
 {}
 
-/// Where the devices of an inode show a good core, whatever a crash leaves of them recovers the file
-/// after the log, and then the request in doubt exactly where its gate was left open.
+/// What fits a good core recovers the file after its log, and then the request in doubt exactly where
+/// its gate was left open.
+pub fn fitting_remains_recover()
+    ensures { FittingRemainsRecover }
+{}
+
+/// So where the devices of an inode show a good core, a crash leaves that file, whatever it leaves.
 pub fn shown_worlds_recover()
     ensures { ShownWorldsRecover }
 {}
