@@ -10,3 +10,5 @@ pub mod Sorted
 pub mod Left
 pub mod StoredLeft
 pub mod LiveLeft
+pub mod Worlds
+pub mod SlotSteps

@@ -1,5 +1,5 @@
 -- What a store that depicts an image recovers, and what is no matter to an inode.
-use Rattle.std.specs.Prelude.{◌≡◌, ◌≢◌, ℕ, ◌+◌, ◌*◌, ◌/◌, ◌<◌, ◌≤◌, true, false, None, List, [], ◌++◌, length, map, get_or, set}
+use Rattle.std.specs.Prelude.{◌≡◌, ◌≢◌, ℕ, ◌+◌, ◌*◌, ◌/◌, ◌<◌, ◌≤◌, true, false, None, List, [], ◌∷◌, ◌++◌, length, map, get_or, set}
 use Rattle.std.specs.List.{Contains}
 use Rattle.cfs_file.specs.Log.{file_of}
 use Rattle.cfs_file.specs.declared.sizes.TheConstants.{FILE_BLOCKS}
@@ -8,6 +8,11 @@ use Rattle.cfs_core.specs.declared.image.Image.{Image}
 use Rattle.cfs_core.specs.declared.inode_core.Core.{Core}
 use Rattle.cfs_core.specs.Fresh.{IsEmpty, IsFresh}
 use Rattle.cfs_core.specs.Good.{IsGood, Rises}
+use Rattle.cfs_core.specs.declared.flag.Flag.TheVariants.{Off, Unsure}
+use Rattle.cfs_pmem.specs.declared.trace.Asked.{Asked}
+use Rattle.cfs_pmem.specs.Images.{Seen, WordStep, IsImage, IsSetFrom}
+use Rattle.cfs_pmem.specs.Moments.{Moments}
+use Rattle.cfs_pmem.specs.Objects.{IsEachImage}
 use Rattle.cfs_core.specs.Medium.{in_doubt, is_image, live_entries, recovered, stored}
 use Rattle.cfs_core.specs.Run.{IsRun, after_all}
 use Rattle.cfs_slot.specs.Words.{is_live, tails_of}
@@ -15,8 +20,10 @@ use Rattle.cfs_slot.specs.Tails.{numbers_in}
 use Rattle.cfs_block.specs.BlockImages.{Content}
 use Rattle.cfs_medium.specs.Store.{Store, entry_at, live_in, recovered_file, stored_file, tag_of}
 use Rattle.cfs_medium.specs.Depicts.{Depicts, content_at}
-use Rattle.cfs_medium.specs.Shows.{HasShape, Recovers, RemainsFit, Shows}
+use Rattle.cfs_medium.specs.Differs.{DiffersAt}
+use Rattle.cfs_medium.specs.Shows.{HasShape, Recovers, RemainsFit, Shows, SlotFits, holding}
 use Rattle.cfs_medium.specs.World.{AllRemains, Remains, World}
+use Rattle.cfs_medium.specs.WorldCalls.{AreShut, WorldMoments, with_slots}
 
 -- A store that depicts an image stores the file that the image stores. Where the gates of the image's live
 -- entries rise, it recovers the file that the image recovers.
@@ -83,3 +90,36 @@ abbrev pub ShownWorldsRecover : Type 0
 ShownWorldsRecover =
     (ino n : ℕ) (core : Core) (world : World) → IsGood core → Shows ino core world →
     length core.log + 2 ≤ n → AllRemains world (Recovers ino n core)
+
+-- The head of the slots at a number has a word set, and each image of them fits another core, which
+-- differs from the one that the devices show at this number alone. Then whatever a crash leaves at any
+-- moment recovers the other core's file, and behind the call the devices show it.
+abbrev pub HeadsMayBeSet : Type 0
+HeadsMayBeSet =
+    (ino n place at word : ℕ) (core now : Core) (world : World) (head new : Seen WordStep)
+    (tails : List (Seen WordStep)) (asked_old asked_new : List Asked) → Shows ino core world →
+    world.slots place ≡ head ∷ tails → DiffersAt place core now → IsGood now → HasShape now →
+    length now.log + 2 ≤ n →
+    ((image : List ℕ) (rest : List (List ℕ)) → IsSetFrom head at word image →
+    IsEachImage IsImage tails rest → SlotFits ino place (holding now now.doubt place) (image ∷ rest)) →
+    Moments IsImage (IsSetFrom head at word) asked_old head asked_new new →
+    WorldMoments (Recovers ino n now) asked_old world asked_new (with_slots place (new ∷ tails) world)
+    × Shows ino now (with_slots place (new ∷ tails) world)
+
+-- So a gate that may be open or closed may be closed, whether that fails or not: the core is the same.
+abbrev pub GatesMayClose : Type 0
+GatesMayClose =
+    (ino n place : ℕ) (core : Core) (world : World) (head new : Seen WordStep)
+    (tails : List (Seen WordStep)) (asked_old asked_new : List Asked) → Shows ino core world →
+    world.slots place ≡ head ∷ tails → IsGood core → length core.log + 2 ≤ n →
+    (holding core core.doubt place).gate ≡ Unsure →
+    Moments IsImage (IsSetFrom head 0 0) asked_old head asked_new new →
+    WorldMoments (Recovers ino n core) asked_old world asked_new (with_slots place (new ∷ tails) world)
+    × Shows ino core (with_slots place (new ∷ tails) world)
+
+-- Slots whose gate is closed in every image show a core that knows it closed.
+abbrev pub ShutSlotsShow : Type 0
+ShutSlotsShow =
+    (ino place : ℕ) (core now : Core) (world : World) → Shows ino core world →
+    AreShut (world.slots place) → DiffersAt place core now → HasShape now →
+    (holding now now.doubt place).gate ≡ Off → Shows ino now world

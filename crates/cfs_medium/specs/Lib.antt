@@ -1,6 +1,8 @@
 pub mod Store
 pub mod Depicts
 pub mod Found
-pub mod Laws
 pub mod World
 pub mod Shows
+pub mod WorldCalls
+pub mod Differs
+pub mod Laws

@@ -8,7 +8,7 @@
 
 mod recovery;
 
-ghost use Rattle.cfs_medium.specs.Laws.{BlocksOfOthersStay, DepictedStoresRecover, EmptyStoresDepict, FittingRemainsRecover, RunsAreRecovered, ShownWorldsRecover, SlotsOfOthersStay, TagsAreApart};
+ghost use Rattle.cfs_medium.specs.Laws.{BlocksOfOthersStay, DepictedStoresRecover, EmptyStoresDepict, FittingRemainsRecover, GatesMayClose, HeadsMayBeSet, RunsAreRecovered, ShownWorldsRecover, ShutSlotsShow, SlotsOfOthersStay, TagsAreApart};
 
 pub use recovery::{BlockFound, recover};
 
@@ -47,6 +47,23 @@ pub fn fitting_remains_recover()
 /// So where the devices of an inode show a good core, a crash leaves that file, whatever it leaves.
 pub fn shown_worlds_recover()
     ensures { ShownWorldsRecover }
+{}
+
+/// The head of the slots at a number may have a word set, where each image of them fits another core:
+/// whatever a crash leaves at any moment recovers that core's file, and behind the call the devices
+/// show it.
+pub fn heads_may_be_set()
+    ensures { HeadsMayBeSet }
+{}
+
+/// A gate that may be open or closed may be closed, whether that fails or not.
+pub fn gates_may_close()
+    ensures { GatesMayClose }
+{}
+
+/// Slots whose gate is closed in every image show a core that knows it closed.
+pub fn shut_slots_show()
+    ensures { ShutSlotsShow }
 {}
 
 /// A store that has nothing of an inode depicts the core of an empty file.
