@@ -12,3 +12,4 @@ pub mod StoredLeft
 pub mod LiveLeft
 pub mod Worlds
 pub mod SlotSteps
+pub mod BlockSteps

@@ -1,5 +1,5 @@
 -- What a store that depicts an image recovers, and what is no matter to an inode.
-use Rattle.std.specs.Prelude.{◌≡◌, ◌≢◌, ℕ, ◌+◌, ◌*◌, ◌/◌, ◌<◌, ◌≤◌, true, false, None, List, [], ◌∷◌, ◌++◌, length, map, get_or, set}
+use Rattle.std.specs.Prelude.{◌≡◌, ◌≢◌, ℕ, ◌+◌, ◌*◌, ◌/◌, ◌<◌, ◌≤◌, true, false, None, Some, List, [], ◌∷◌, ◌++◌, length, map, get_or, set}
 use Rattle.std.specs.List.{Contains}
 use Rattle.cfs_file.specs.Log.{file_of}
 use Rattle.cfs_file.specs.declared.sizes.TheConstants.{FILE_BLOCKS}
@@ -17,13 +17,14 @@ use Rattle.cfs_core.specs.Medium.{in_doubt, is_image, live_entries, recovered, s
 use Rattle.cfs_core.specs.Run.{IsRun, after_all}
 use Rattle.cfs_slot.specs.Words.{is_live, tails_of}
 use Rattle.cfs_slot.specs.Tails.{numbers_in}
-use Rattle.cfs_block.specs.BlockImages.{Content}
+use Rattle.cfs_block.specs.BlockImages.{BlockStep, Content, IsBlockImage}
 use Rattle.cfs_medium.specs.Store.{Store, entry_at, live_in, recovered_file, stored_file, tag_of}
 use Rattle.cfs_medium.specs.Depicts.{Depicts, content_at}
 use Rattle.cfs_medium.specs.Differs.{DiffersAt}
-use Rattle.cfs_medium.specs.Shows.{HasShape, Recovers, RemainsFit, Shows, SlotFits, holding}
+use Rattle.cfs_medium.specs.BlockCalls.{BlockCall, DiffersIn, MayBe}
+use Rattle.cfs_medium.specs.Shows.{BlockFits, HasShape, ReadsAs, Recovers, RemainsFit, Shows, SlotFits, holding}
 use Rattle.cfs_medium.specs.World.{AllRemains, Remains, World}
-use Rattle.cfs_medium.specs.WorldCalls.{AreShut, WorldMoments, with_slots}
+use Rattle.cfs_medium.specs.WorldCalls.{AreShut, WorldMoments, with_block, with_slots}
 
 -- A store that depicts an image stores the file that the image stores. Where the gates of the image's live
 -- entries rise, it recovers the file that the image recovers.
@@ -123,3 +124,18 @@ ShutSlotsShow =
     (ino place : ℕ) (core now : Core) (world : World) → Shows ino core world →
     AreShut (world.slots place) → DiffersAt place core now → HasShape now →
     (holding now now.doubt place).gate ≡ Off → Shows ino now world
+
+-- The block of a file block has its tag set, bytes written or is flushed, and each image of it fits
+-- another core, which differs from the one that the devices show at this block alone. Then whatever a
+-- crash leaves at any moment recovers the other core's file, and behind the call the devices show it.
+abbrev pub BlocksMayChange : Type 0
+BlocksMayChange =
+    (ino n block : ℕ) (call : BlockCall) (core now : Core) (world : World) (seen new : Seen BlockStep)
+    (asked_old asked_new : List Asked) → Shows ino core world → world.blocks block ≡ Some seen →
+    DiffersIn block core now → IsGood now → HasShape now → length now.log + 2 ≤ n →
+    ((content : Content) → MayBe call seen content →
+    BlockFits ino block (get_or now.tags block Off) now.loose now.bytes content) →
+    ReadsAs ino block now.bytes (Some new) →
+    Moments IsBlockImage (MayBe call seen) asked_old seen asked_new new →
+    WorldMoments (Recovers ino n now) asked_old world asked_new (with_block block (Some new) world)
+    × Shows ino now (with_block block (Some new) world)

@@ -5,4 +5,5 @@ pub mod World
 pub mod Shows
 pub mod WorldCalls
 pub mod Differs
+pub mod BlockCalls
 pub mod Laws

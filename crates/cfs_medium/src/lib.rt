@@ -8,7 +8,7 @@
 
 mod recovery;
 
-ghost use Rattle.cfs_medium.specs.Laws.{BlocksOfOthersStay, DepictedStoresRecover, EmptyStoresDepict, FittingRemainsRecover, GatesMayClose, HeadsMayBeSet, RunsAreRecovered, ShownWorldsRecover, ShutSlotsShow, SlotsOfOthersStay, TagsAreApart};
+ghost use Rattle.cfs_medium.specs.Laws.{BlocksMayChange, BlocksOfOthersStay, DepictedStoresRecover, EmptyStoresDepict, FittingRemainsRecover, GatesMayClose, HeadsMayBeSet, RunsAreRecovered, ShownWorldsRecover, ShutSlotsShow, SlotsOfOthersStay, TagsAreApart};
 
 pub use recovery::{BlockFound, recover};
 
@@ -64,6 +64,12 @@ pub fn gates_may_close()
 /// Slots whose gate is closed in every image show a core that knows it closed.
 pub fn shut_slots_show()
     ensures { ShutSlotsShow }
+{}
+
+/// The block of a file block may have its tag set, bytes written or be flushed, where each image of it
+/// fits another core: the same holds then.
+pub fn blocks_may_change()
+    ensures { BlocksMayChange }
 {}
 
 /// A store that has nothing of an inode depicts the core of an empty file.
