@@ -130,11 +130,11 @@ beside-fits ino block core now world here remains shows differs may fits = recor
           ((shows.blocks at within).images (remains.blocks at) left)
     ]
 
-with-shows : (ino block : ℕ) (core now : Core) (world : World) (here : Option (Seen BlockStep)) →
+pub block_shows : (ino block : ℕ) (core now : Core) (world : World) (here : Option (Seen BlockStep)) →
     Shows ino core world → DiffersIn block core now → HasShape now →
     BlockShown ino block (get_or now.tags block Off) now.loose now.bytes here →
     Shows ino now (with_block block here world)
-with-shows ino block core now world here shows differs shape shown = record {
+block_shows ino block core now world here shows differs shape shown = record {
   shape = shape;
   sizes = λ words image. rw (differs.size, differs.sizes) (shows.sizes words image);
   size_now = shows.size_now ∙ sym differs.size;
@@ -160,13 +160,23 @@ with-shows ino block core now world here shows differs shape shown = record {
           })
     ]
 
+pub same_core : (block : ℕ) (core : Core) → DiffersIn block core core
+same_core block core = record {
+  size = refl;
+  sizes = refl;
+  held = λ place. refl;
+  tags = λ at other. refl;
+  loose = λ position other. refl;
+  bytes = λ position other. refl;
+}
+
 pub blocks-change : BlocksMayChange
 blocks-change ino n block call core now world seen new asked_old asked_new shows here differs good
     shape room fits reads moments =
     (subst (λ w. WorldMoments (Recovers ino n now) asked_old w asked_new
     (with_block block (Some new) world)) (same_block block (Some seen) world here)
     (block_moments block world (MayBe call seen) (Recovers ino n now) gives moments),
-    with-shows ino block core now world (Some new) shows differs shape
+    block_shows ino block core now world (Some new) shows differs shape
     (record { images = λ content image. fits content (at_end moments content image); reads = reads }))
   where
     gives : (at : Seen BlockStep) →

@@ -13,3 +13,4 @@ pub mod LiveLeft
 pub mod Worlds
 pub mod SlotSteps
 pub mod BlockSteps
+pub mod SizeSteps

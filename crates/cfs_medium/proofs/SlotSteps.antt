@@ -48,11 +48,11 @@ beside-fits ino place core now world seens remains shows differs may fits = reco
     ]
 
 -- The world with these slots shows the other core, where they do.
-with-shows : (ino place : ℕ) (core now : Core) (world : World) (seens : List (Seen WordStep)) →
+pub slots_show : (ino place : ℕ) (core now : Core) (world : World) (seens : List (Seen WordStep)) →
     Shows ino core world → DiffersAt place core now → HasShape now →
     SlotsShown ino place (holding now now.doubt place) seens →
     Shows ino now (with_slots place seens world)
-with-shows ino place core now world seens shows differs shape shown = record {
+slots_show ino place core now world seens shows differs shape shown = record {
   shape = shape;
   sizes = λ words image. rw (differs.size, differs.sizes) (shows.sizes words image);
   size_now = shows.size_now ∙ sym differs.size;
@@ -88,7 +88,7 @@ heads-set ino n place at word core now world head new tails asked_old asked_new 
     (subst (λ w. WorldMoments (Recovers ino n now) asked_old w asked_new
     (with_slots place (new ∷ tails) world)) (same_world place (head ∷ tails) world here)
     (head_moments place tails world (IsSetFrom head at word) (Recovers ino n now) gives moments),
-    with-shows ino place core now world (new ∷ tails) shows differs shape shown)
+    slots_show ino place core now world (new ∷ tails) shows differs shape shown)
   where
     gives : (seen : Seen WordStep) →
         ((image : List ℕ) → IsImage seen.history image → IsSetFrom head at word image) →
@@ -113,7 +113,7 @@ heads-set ino n place at word core now world head new tails asked_old asked_new 
 pub shut-show : ShutSlotsShow
 shut-show ino place core now world shows shut differs shape off =
     subst (λ w. Shows ino now w) (same_world place (world.slots place) world refl)
-    (with-shows ino place core now world (world.slots place) shows differs shape shown)
+    (slots_show ino place core now world (world.slots place) shows differs shape shown)
   where
     shown : SlotsShown ino place (holding now now.doubt place) (world.slots place)
     shown slots images =
@@ -126,7 +126,7 @@ shut-show ino place core now world shows shut differs shape off =
           request = λ gated. cc;
         }
 
-differs-none : (place : ℕ) (core : Core) → DiffersAt place core core
+pub differs-none : (place : ℕ) (core : Core) → DiffersAt place core core
 differs-none place core = record {
   size = refl;
   sizes = refl;

@@ -11,3 +11,10 @@ pub record DiffersAt (place : ℕ) (core other : Core) : Type 0 where
   pub loose : other.loose ≡ core.loose
   pub bytes : other.bytes ≡ core.bytes
   pub held : (at : ℕ) → at ≢ place → holding other other.doubt at ≡ holding core core.doubt at
+
+-- the two know the same of every device but the size word
+pub record DiffersInSize (core other : Core) : Type 0 where
+  pub tags : other.tags ≡ core.tags
+  pub loose : other.loose ≡ core.loose
+  pub bytes : other.bytes ≡ core.bytes
+  pub held : (at : ℕ) → holding other other.doubt at ≡ holding core core.doubt at

@@ -1,5 +1,5 @@
 -- What a store that depicts an image recovers, and what is no matter to an inode.
-use Rattle.std.specs.Prelude.{◌≡◌, ◌≢◌, ℕ, ◌+◌, ◌*◌, ◌/◌, ◌<◌, ◌≤◌, true, false, None, Some, List, [], ◌∷◌, ◌++◌, length, map, get_or, set}
+use Rattle.std.specs.Prelude.{◌≡◌, ◌≢◌, ℕ, ◌+◌, ◌*◌, ◌/◌, ◌<◌, ◌≤◌, true, false, Option, None, Some, List, [], ◌∷◌, ◌++◌, length, map, get_or, set}
 use Rattle.std.specs.List.{Contains}
 use Rattle.cfs_file.specs.Log.{file_of}
 use Rattle.cfs_file.specs.declared.sizes.TheConstants.{FILE_BLOCKS}
@@ -10,21 +10,22 @@ use Rattle.cfs_core.specs.Fresh.{IsEmpty, IsFresh}
 use Rattle.cfs_core.specs.Good.{IsGood, Rises}
 use Rattle.cfs_core.specs.declared.flag.Flag.TheVariants.{Off, Unsure}
 use Rattle.cfs_pmem.specs.declared.trace.Asked.{Asked}
-use Rattle.cfs_pmem.specs.Images.{Seen, WordStep, IsImage, IsSetFrom}
+use Rattle.cfs_pmem.specs.Images.{Seen, WordStep, IsImage, IsSetFrom, words_of}
 use Rattle.cfs_pmem.specs.Moments.{Moments}
 use Rattle.cfs_pmem.specs.Objects.{IsEachImage}
-use Rattle.cfs_core.specs.Medium.{in_doubt, is_image, live_entries, recovered, stored}
+use Rattle.cfs_core.specs.Words.{can_be}
+use Rattle.cfs_core.specs.Medium.{in_doubt, is_image, is_size, live_entries, recovered, stored}
 use Rattle.cfs_core.specs.Run.{IsRun, after_all}
 use Rattle.cfs_slot.specs.Words.{is_live, tails_of}
 use Rattle.cfs_slot.specs.Tails.{numbers_in}
-use Rattle.cfs_block.specs.BlockImages.{BlockStep, Content, IsBlockImage}
+use Rattle.cfs_block.specs.BlockImages.{BlockStep, Content, IsBlockImage, content_of}
 use Rattle.cfs_medium.specs.Store.{Store, entry_at, live_in, recovered_file, stored_file, tag_of}
 use Rattle.cfs_medium.specs.Depicts.{Depicts, content_at}
-use Rattle.cfs_medium.specs.Differs.{DiffersAt}
+use Rattle.cfs_medium.specs.Differs.{DiffersAt, DiffersInSize}
 use Rattle.cfs_medium.specs.BlockCalls.{BlockCall, DiffersIn, MayBe}
-use Rattle.cfs_medium.specs.Shows.{BlockFits, HasShape, ReadsAs, Recovers, RemainsFit, Shows, SlotFits, holding}
+use Rattle.cfs_medium.specs.Shows.{BlockFits, HasShape, ReadsAs, Recovers, RemainsFit, Shows, SlotFits, holding, is_for}
 use Rattle.cfs_medium.specs.World.{AllRemains, Remains, World}
-use Rattle.cfs_medium.specs.WorldCalls.{AreShut, WorldMoments, with_block, with_slots}
+use Rattle.cfs_medium.specs.WorldCalls.{AreShut, IsBare, WorldMoments, with_block, with_size, with_slots}
 
 -- A store that depicts an image stores the file that the image stores. Where the gates of the image's live
 -- entries rise, it recovers the file that the image recovers.
@@ -139,3 +140,35 @@ BlocksMayChange =
     Moments IsBlockImage (MayBe call seen) asked_old seen asked_new new →
     WorldMoments (Recovers ino n now) asked_old world asked_new (with_block block (Some new) world)
     × Shows ino now (with_block block (Some new) world)
+
+-- And so of the size word.
+abbrev pub SizesMayBeSet : Type 0
+SizesMayBeSet =
+    (ino n word : ℕ) (core now : Core) (world : World) (new : Seen WordStep)
+    (asked_old asked_new : List Asked) → Shows ino core world → DiffersInSize core now → IsGood now →
+    HasShape now → length now.log + 2 ≤ n →
+    ((words : List ℕ) → IsSetFrom world.size 0 word words → is_size now (get_or words 0 0) ≡ true) →
+    get_or (words_of new) 0 0 ≡ now.size →
+    Moments IsImage (IsSetFrom world.size 0 word) asked_old world.size asked_new new →
+    WorldMoments (Recovers ino n now) asked_old world asked_new (with_size new world)
+    × Shows ino now (with_size new world)
+
+-- Slots that no image has open may be taken away, and others may come in their place, without a step.
+abbrev pub SlotsMayCome : Type 0
+SlotsMayCome =
+    (ino n place : ℕ) (core : Core) (world : World) (seens : List (Seen WordStep)) (asked : List Asked) →
+    Shows ino core world → AreShut (world.slots place) → AreShut seens → IsGood core →
+    length core.log + 2 ≤ n → can_be (holding core core.doubt place).gate false ≡ true →
+    WorldMoments (Recovers ino n core) asked world asked (with_slots place seens world)
+    × Shows ino core (with_slots place seens world)
+
+-- And so may a block that no image has tagged.
+abbrev pub BlocksMayCome : Type 0
+BlocksMayCome =
+    (ino n block : ℕ) (core : Core) (world : World) (here : Option (Seen BlockStep))
+    (asked : List Asked) → Shows ino core world → IsBare (world.blocks block) → IsBare here →
+    ((seen : Seen BlockStep) → here ≡ Some seen → is_for ino block (content_of seen) ≡ false) →
+    IsGood core → length core.log + 2 ≤ n →
+    can_be (get_or core.tags block Off) false ≡ true →
+    WorldMoments (Recovers ino n core) asked world asked (with_block block here world)
+    × Shows ino core (with_block block here world)

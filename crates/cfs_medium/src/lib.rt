@@ -8,7 +8,7 @@
 
 mod recovery;
 
-ghost use Rattle.cfs_medium.specs.Laws.{BlocksMayChange, BlocksOfOthersStay, DepictedStoresRecover, EmptyStoresDepict, FittingRemainsRecover, GatesMayClose, HeadsMayBeSet, RunsAreRecovered, ShownWorldsRecover, ShutSlotsShow, SlotsOfOthersStay, TagsAreApart};
+ghost use Rattle.cfs_medium.specs.Laws.{BlocksMayChange, BlocksMayCome, BlocksOfOthersStay, DepictedStoresRecover, EmptyStoresDepict, FittingRemainsRecover, GatesMayClose, HeadsMayBeSet, RunsAreRecovered, ShownWorldsRecover, ShutSlotsShow, SizesMayBeSet, SlotsMayCome, SlotsOfOthersStay, TagsAreApart};
 
 pub use recovery::{BlockFound, recover};
 
@@ -70,6 +70,21 @@ pub fn shut_slots_show()
 /// fits another core: the same holds then.
 pub fn blocks_may_change()
     ensures { BlocksMayChange }
+{}
+
+/// And so the size word may be set.
+pub fn sizes_may_be_set()
+    ensures { SizesMayBeSet }
+{}
+
+/// Slots that no image has open may go, and others may come in their place, without a step.
+pub fn slots_may_come()
+    ensures { SlotsMayCome }
+{}
+
+/// And so may a block that no image has tagged.
+pub fn blocks_may_come()
+    ensures { BlocksMayCome }
 {}
 
 /// A store that has nothing of an inode depicts the core of an empty file.
