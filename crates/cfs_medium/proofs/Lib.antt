@@ -14,3 +14,4 @@ pub mod Worlds
 pub mod SlotSteps
 pub mod BlockSteps
 pub mod SizeSteps
+pub mod SlotEvents

@@ -7,3 +7,4 @@ pub mod WorldCalls
 pub mod Differs
 pub mod BlockCalls
 pub mod Laws
+pub mod SlotEvents

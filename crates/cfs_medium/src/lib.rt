@@ -10,6 +10,8 @@ mod recovery;
 
 ghost use Rattle.cfs_medium.specs.Laws.{BlocksMayChange, BlocksMayCome, BlocksOfOthersStay, DepictedStoresRecover, EmptyStoresDepict, FittingRemainsRecover, GatesMayClose, HeadsMayBeSet, RunsAreRecovered, ShownWorldsRecover, ShutSlotsShow, SizesMayBeSet, SlotsMayCome, SlotsOfOthersStay, TagsAreApart};
 
+ghost use Rattle.cfs_medium.specs.SlotEvents.{SettlesShow, SkipsShow};
+
 pub use recovery::{BlockFound, recover};
 
 /// A store that depicts an image stores and recovers what the image does.
@@ -85,6 +87,16 @@ pub fn slots_may_come()
 /// And so may a block that no image has tagged.
 pub fn blocks_may_come()
     ensures { BlocksMayCome }
+{}
+
+/// The gate of a no-op may be closed, and the devices show it skipped.
+pub fn skips_show()
+    ensures { SkipsShow }
+{}
+
+/// The gate of the request in doubt may be closed, and the devices show it settled.
+pub fn settles_show()
+    ensures { SettlesShow }
 {}
 
 /// A store that has nothing of an inode depicts the core of an empty file.

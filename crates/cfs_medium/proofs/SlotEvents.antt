@@ -1,0 +1,390 @@
+-- Events of a core as calls on the slots of one request.
+use Rattle.std.proofs.Common.{◌≡◌, ◌≢◌, ◌⊎◌, inl, inr, ℕ, zero, suc, ◌+◌, ◌-◌, ◌<◌, ◌≤◌, ◌==◌, Bool, true, false, not, ◌&&◌, if◌then◌else◌, Result, Ok, Err, OnOk, OnErr, Option, Some, None, List, [], ◌∷◌, ◌++◌, length, drop, get_or, slice_get, is_none, arith, refl, sym, ap, subst, ◌∙◌, length-append}
+use Rattle.std.proofs.Math.ListN.{set}
+use Rattle.std.specs.Option.{option_map}
+use Rattle.std.proofs.lemmas.Bool.{cases_lt}
+use Rattle.std.proofs.lemmas.Bool.Decides.{nat_tests}
+use Rattle.std.proofs.lemmas.List.{get_or_past, get_or-set_same, length-set}
+use Rattle.cfs_file.specs.declared.entry.Entry.{Entry}
+use Rattle.cfs_file.specs.declared.request.Request.{Request}
+use Rattle.cfs_core.specs.declared.doubt.Doubt.{Doubt}
+use Rattle.cfs_core.specs.declared.event.Event.TheVariants as events
+use Rattle.cfs_core.specs.declared.flag.Flag.{Flag}
+use Rattle.cfs_core.specs.declared.flag.Flag.TheVariants.{Off, On, Unsure}
+use Rattle.cfs_core.specs.declared.state.State.{State}
+use Rattle.cfs_core.specs.declared.state.State.TheVariants.{Closed}
+use Rattle.cfs_core.specs.declared.track.Track.{Track}
+use Rattle.cfs_core.specs.declared.inode_core.Core.{Core}
+use Rattle.cfs_core.specs.After.{after, change_track, marked, retired, with_track}
+use Rattle.cfs_core.specs.Good.{IsGood}
+use Rattle.cfs_core.specs.May.{is_in_phase, may, may_admit, may_mark, may_skip, span_now}
+use Rattle.cfs_core.specs.Medium.{placed}
+use Rattle.cfs_core.specs.Words.{blank, can_be, is_noop, is_waiting, track}
+use Rattle.cfs_core.proofs.Legal.{both, same_number}
+use Rattle.cfs_core.proofs.Marks.{track_beside}
+use Rattle.cfs_core.proofs.Order.{same_or_not, some_place, track_is}
+use Rattle.cfs_pmem.specs.declared.trace.Asked.{Asked}
+use Rattle.cfs_pmem.specs.Images.{Seen, WordStep, IsImage, IsSetFrom, IsSure, words_of, wrote, kept}
+use Rattle.cfs_pmem.specs.Objects.{IsEachImage}
+use Rattle.cfs_pmem.proofs.ImageLemmas.{now_is_image}
+use Rattle.cfs_pmem.specs.WordOps.{SetsWord}
+use Rattle.cfs_slot.specs.Words.{gate_of, ino_of, mark_of, request_of}
+use Rattle.cfs_medium.specs.Differs.{DiffersAt}
+use Rattle.cfs_medium.specs.Shows.{DoubtFits, HasShape, Holding, Recovers, Shows, SlotFits, SlotsShown, doubted, entry_of, holding, is_gated, logged_at}
+use Rattle.cfs_medium.specs.SlotEvents.{AdmissionsShow, Answer, AreStagedAs, IsBesideDoubt, IsStagedAs, Leads, MarksShow, SettlesShow, SkipsShow}
+use Rattle.cfs_medium.specs.World.{World, head_words}
+use Rattle.cfs_medium.specs.WorldCalls.{AreShut, WorldMoments, with_slots}
+use Rattle.cfs_medium.proofs.Left.{equal_test}
+use Rattle.cfs_medium.proofs.SlotSteps.{gates-close, heads-set, shut-show, slots_show}
+use Rattle.cfs_medium.proofs.Worlds.{at_place}
+
+-- ---- cores with another track
+
+holding-same : (core now : Core) (doubt : Option Doubt) (at : ℕ) →
+    logged_at now.log (track now.tracks at) at ≡ logged_at core.log (track core.tracks at) at →
+    holding now doubt at ≡ holding core doubt at
+holding-same core now None at same = same
+holding-same core now (Some d) at same =
+    ap (λ (h : Holding). if d.entry.place == at then doubted d else h) same
+
+-- one with another track at a place
+track-differs : (core : Core) (place : ℕ) (t : Track) → (place ≡ 0 → ⊥) →
+    DiffersAt place core (with_track core place t)
+track-differs core place t some = record {
+  size = refl;
+  sizes = refl;
+  tags = refl;
+  loose = refl;
+  bytes = refl;
+  held = λ at other. holding-same core (with_track core place t) core.doubt at
+      (ap (λ (u : Track). logged_at core.log u at) (track_beside core.tracks place at t some other));
+}
+
+track-shape : (core : Core) (place : ℕ) (t : Track) → (place ≡ 0 → ⊥) → HasShape core →
+    IsBesideDoubt core place → HasShape (with_track core place t)
+track-shape core place t some shape beside = record {
+  tags = shape.tags;
+  tracks = length-set core.tracks (place - 1) t ∙ shape.tracks;
+  doubt = λ d is.
+      let fits = shape.doubt d is in
+      record {
+        from = fits.from;
+        to = fits.to;
+        apart =
+            ap (λ (u : Track). u.gate)
+            (track_beside core.tracks place d.entry.place t some (beside d is)) ∙ fits.apart;
+      };
+  loose = shape.loose;
+}
+
+-- the track at the place itself
+track-here : (core : Core) (place : ℕ) (t : Track) → (place ≡ 0 → ⊥) → place ≤ length core.tracks →
+    track (with_track core place t).tracks place ≡ t
+track-here core place t some within =
+    track_is (with_track core place t).tracks place (place - 1) some refl
+    ∙ get_or-set_same core.tracks (place - 1) t blank (omega (arith, within, some))
+
+-- what is known at a place beside the doubt's number
+holding-logged : (core : Core) (doubt : Option Doubt) (place : ℕ) →
+    ((d : Doubt) → doubt ≡ Some d → d.entry.place ≢ place) →
+    holding core doubt place ≡ logged_at core.log (track core.tracks place) place
+holding-logged core None place beside = refl
+holding-logged core (Some d) place beside =
+    let differs : d.entry.place ≢ place = beside d refl in
+    let test : (d.entry.place == place) ≡ false = grind (arith, nat_tests) in
+    rw test refl
+
+-- where a state passes that of no request, the place is one of the tracks'
+within_place : (test : State → Bool) → test Closed ≡ false → (tracks : List Track) (place : ℕ) →
+    (place ≡ 0 → ⊥) → test (track tracks place).state ≡ true → place ≤ length tracks
+within_place test closed tracks place some passes = elim (cases_lt (length tracks) place) [
+  | inl past ↦
+      let none : track tracks place ≡ blank =
+      track_is tracks place (place - 1) some refl
+      ∙ get_or_past tracks (place - 1) blank (omega (arith, past)) in
+      let fails : test (track tracks place).state ≡ false =
+      ap (λ (t : Track). test t.state) none ∙ closed in
+      cc
+  | inr within ↦ omega (arith, within)
+]
+
+some_place_same : (d doubt : Doubt) → Some d ≡ Some doubt → d.entry.place ≡ doubt.entry.place
+some_place_same d doubt same = cc
+
+-- ---- closed gates
+
+set_gate : (words : List ℕ) → is_gated (set words 0 0) ≡ false
+set_gate [] = refl
+set_gate (word ∷ words) = refl
+
+abbrev plain_ok : Unit {0} → Answer
+plain_ok value = Ok value
+
+-- once it was set, the gate is closed in every image
+closed-shut : (obeys : Bool) (value : Unit {0}) (head new : Seen WordStep)
+    (tails : List (Seen WordStep)) (asked_old asked_new : List Asked) →
+    SetsWord obeys 0 0 (plain_ok value) asked_old head asked_new new → AreShut (new ∷ tails)
+closed-shut obeys value head new tails asked_old asked_new sets [] images = absurd images
+closed-shut obeys value head new tails asked_old asked_new sets (image ∷ rest) images =
+    let now : words_of new ≡ set (words_of head) 0 0 =
+    ap (λ (s : Seen WordStep). words_of s) sets.ok in
+    let is : image ≡ set (words_of head) 0 0 = sets.sure image images.0 ∙ now in
+    ap is_gated is ∙ set_gate (words_of head)
+
+-- What a world shows whose slots at a number are closed in every image.
+closed-shows : (ino place : ℕ) (core now : Core) (world : World) (seens : List (Seen WordStep)) →
+    Shows ino core (with_slots place seens world) → AreShut seens → DiffersAt place core now →
+    HasShape now → (holding now now.doubt place).gate ≡ Off →
+    Shows ino now (with_slots place seens world)
+closed-shows ino place core now world seens shows shut differs shape off =
+    shut-show ino place core now (with_slots place seens world) shows
+    (rw (at_place place seens (world.slots place)) shut) differs shape off
+
+pub skips-show : SkipsShow
+skips-show ino n place core world head new tails obeys result asked_old asked_new good shows
+    allowed beside unsure room here sets = record {
+  moments = all.0;
+  ok = by result sets;
+  err = by_err result;
+}
+  where
+    held : holding core core.doubt place ≡ logged_at core.log (track core.tracks place) place
+    held = holding-logged core core.doubt place beside
+
+    all : WorldMoments (Recovers ino n core) asked_old world asked_new
+        (with_slots place (new ∷ tails) world)
+        × Shows ino core (with_slots place (new ∷ tails) world)
+    all = gates-close ino n place core world head new tails asked_old asked_new shows here good room
+        (ap (λ (h : Holding). h.gate) held ∙ unsure) sets.moments
+
+    noop : is_noop (track core.tracks place).state ≡ true
+    noop = (both (is_in_phase core.crashed (events.Skip place)) (may_skip core place) allowed).1
+
+    place_is : (place ≡ 0 → ⊥) × (place ≤ length core.tracks)
+    place_is = let some : place ≡ 0 → ⊥ = some_place is_noop refl core.tracks place noop in
+        (some, within_place is_noop refl core.tracks place some noop)
+
+    by : (result : Answer) → SetsWord obeys 0 0 result asked_old head asked_new new →
+        OnOk result (Shows ino (after core (events.Skip place)) (with_slots place (new ∷ tails) world))
+    by (Err e) sets = tt
+    by (Ok value) sets =
+        let now : Core = after core (events.Skip place) in
+        let off : (holding now now.doubt place).gate ≡ Off =
+        ap (λ (h : Holding). h.gate) (holding-logged now core.doubt place beside)
+        ∙ ap (λ (t : Track). t.gate)
+        (track-here core place (retired (track core.tracks place)) place_is.0 place_is.1) in
+        closed-shows ino place core now world (new ∷ tails) all.1
+        (closed-shut obeys value head new tails asked_old asked_new sets)
+        (track-differs core place (retired (track core.tracks place)) place_is.0)
+        (track-shape core place (retired (track core.tracks place)) place_is.0 shows.shape beside) off
+
+    by_err : (result : Answer) →
+        OnErr result (Shows ino core (with_slots place (new ∷ tails) world))
+    by_err (Ok value) = tt
+    by_err (Err e) = all.1
+
+pub settles-show : SettlesShow
+settles-show ino n core doubt world head new tails obeys result asked_old asked_new good shows
+    is unsure room here sets = record {
+  moments = all.0;
+  ok = by result sets;
+  err = by_err result;
+}
+  where
+    place : ℕ
+    place = doubt.entry.place
+
+    held : holding core core.doubt place ≡ doubted doubt
+    held =
+        ap (λ (o : Option Doubt). holding core o place) is ∙ rw (equal_test place) refl
+
+    all : WorldMoments (Recovers ino n core) asked_old world asked_new
+        (with_slots place (new ∷ tails) world)
+        × Shows ino core (with_slots place (new ∷ tails) world)
+    all = gates-close ino n place core world head new tails asked_old asked_new shows here good room
+        (ap (λ (h : Holding). h.gate) held ∙ unsure) sets.moments
+
+    now : Core
+    now = after core events.Settle
+
+    differs : DiffersAt place core now
+    differs = record {
+      size = refl;
+      sizes = refl;
+      tags = refl;
+      loose = refl;
+      bytes = refl;
+      held = λ at other.
+          sym (holding-logged core core.doubt at
+          (λ d same number. other (sym (sym (some_place_same d doubt (sym same ∙ is)) ∙ number))));
+    }
+
+    shape : HasShape now
+    shape = record {
+      tags = shows.shape.tags;
+      tracks = shows.shape.tracks;
+      doubt = λ d none. cc;
+      loose = shows.shape.loose;
+    }
+
+    by : (result : Answer) → SetsWord obeys 0 0 result asked_old head asked_new new →
+        OnOk result (Shows ino now (with_slots place (new ∷ tails) world))
+    by (Err e) sets = tt
+    by (Ok value) sets =
+        closed-shows ino place core now world (new ∷ tails) all.1
+        (closed-shut obeys value head new tails asked_old asked_new sets) differs shape
+        (shows.shape.doubt doubt is).apart
+
+    by_err : (result : Answer) →
+        OnErr result (Shows ino core (with_slots place (new ∷ tails) world))
+    by_err (Ok value) = tt
+    by_err (Err e) = all.1
+
+-- ---- marks
+
+-- words whose mark is set are else as they were
+mark_keeps : (words : List ℕ) (tails : List (List ℕ)) →
+    (gate_of (set words 1 1) ≡ gate_of words) × ((ino_of (set words 1 1) ≡ ino_of words)
+    × (request_of (set words 1 1) tails ≡ request_of words tails))
+mark_keeps [] tails = (refl, (refl, refl))
+mark_keeps (gate ∷ []) tails = (refl, (refl, refl))
+mark_keeps (gate ∷ (mark ∷ words)) tails = (refl, (refl, refl))
+
+-- the same holding with a mark that an image may have or not
+marked-fits : (ino place : ℕ) (held now : Holding) (words : List ℕ) (tails : List (List ℕ)) →
+    SlotFits ino place held (words ∷ tails) → ((bit : Bool) → can_be held.gate bit ≡ true →
+    can_be now.gate bit ≡ true) → now.mark ≡ Unsure → now.request ≡ held.request →
+    SlotFits ino place now (words ∷ tails)
+marked-fits ino place held now words tails fits gates mark request = record {
+  gate = gates (is_gated words) fits.gate;
+  number = fits.number;
+  mark = λ gated. rw mark refl;
+  file = fits.file;
+  request = λ gated. request ∙ fits.request gated;
+}
+
+set_marked-fits : (ino place : ℕ) (held now : Holding) (words : List ℕ) (tails : List (List ℕ)) →
+    SlotFits ino place held (words ∷ tails) → ((bit : Bool) → can_be held.gate bit ≡ true →
+    can_be now.gate bit ≡ true) → ((bit : Bool) → can_be now.mark bit ≡ true) →
+    now.request ≡ held.request → SlotFits ino place now (set words 1 1 ∷ tails)
+set_marked-fits ino place held now words tails fits gates marks request =
+    let keeps = mark_keeps words tails in
+    let same : is_gated (set words 1 1) ≡ is_gated words =
+    ap (λ (g : ℕ). not (g == 0)) keeps.0 in
+    record {
+      gate = rw same (gates (is_gated words) fits.gate);
+      number = λ gated. keeps.0 ∙ fits.number (sym same ∙ gated);
+      mark = λ gated. marks (mark_of (set words 1 1) == 1);
+      file = λ gated. keeps.1.0 ∙ fits.file (sym same ∙ gated);
+      request = λ gated. request ∙ (fits.request (sym same ∙ gated)
+          ∙ ap (λ (r : Request). Some r) (sym keeps.1.1));
+    }
+
+mark_is_set : (words : List ℕ) → 1 < length words → (mark_of (set words 1 1) == 1) ≡ true
+mark_is_set [] long = absurd (omega arith)
+mark_is_set (gate ∷ []) long = absurd (omega arith)
+mark_is_set (gate ∷ (mark ∷ words)) long = refl
+
+set_marked-on : (ino place : ℕ) (held now : Holding) (words : List ℕ) (tails : List (List ℕ)) →
+    SlotFits ino place held (words ∷ tails) → ((bit : Bool) → can_be held.gate bit ≡ true →
+    can_be now.gate bit ≡ true) → 1 < length words → now.mark ≡ On →
+    now.request ≡ held.request → SlotFits ino place now (set words 1 1 ∷ tails)
+set_marked-on ino place held now words tails fits gates long mark request =
+    let keeps = mark_keeps words tails in
+    let same : is_gated (set words 1 1) ≡ is_gated words =
+    ap (λ (g : ℕ). not (g == 0)) keeps.0 in
+    record {
+      gate = rw same (gates (is_gated words) fits.gate);
+      number = λ gated. keeps.0 ∙ fits.number (sym same ∙ gated);
+      mark = λ gated. rw (mark, mark_is_set words long) refl;
+      file = λ gated. keeps.1.0 ∙ fits.file (sym same ∙ gated);
+      request = λ gated. request ∙ (fits.request (sym same ∙ gated)
+          ∙ ap (λ (r : Request). Some r) (sym keeps.1.1));
+    }
+
+pub marks-show : MarksShow
+marks-show ino n place by core world head new tails obeys result asked_old asked_new good shows allowed
+    beside room here long sets = record {
+  moments = all.0;
+  ok = ended result sets;
+  err = failed result;
+}
+  where
+    tried : Core
+    tried = after core (events.Mark place by false)
+
+    waits : is_waiting (track core.tracks place).state ≡ true
+    waits = (both (is_waiting (track core.tracks place).state) _
+        (both (is_in_phase core.crashed (events.Mark place by true)) (may_mark core place by) allowed).1).0
+
+    some : place ≡ 0 → ⊥
+    some = some_place is_waiting refl core.tracks place waits
+
+    within : place ≤ length core.tracks
+    within = within_place is_waiting refl core.tracks place some waits
+
+    old : holding core core.doubt place ≡ logged_at core.log (track core.tracks place) place
+    old = holding-logged core core.doubt place beside
+
+    held : (t : Track) → holding (with_track core place t) core.doubt place ≡ logged_at core.log t place
+    held t = holding-logged (with_track core place t) core.doubt place beside
+        ∙ ap (λ (u : Track). logged_at core.log u place) (track-here core place t some within)
+
+    fits : (image : List ℕ) (rest : List (List ℕ)) → IsSetFrom head 1 1 image →
+        IsEachImage IsImage tails rest →
+        SlotFits ino place (holding tried tried.doubt place) (image ∷ rest)
+    fits image rest set_ images =
+        let first : SlotFits ino place (logged_at core.log (track core.tracks place) place)
+        (set_.first ∷ rest) =
+        rw old at (shows.slots place (set_.first ∷ rest) (rw here (set_.possible, images))) in
+        rw (held (marked (track core.tracks place) false)) (elim set_.same [
+          | inl same ↦
+              rw same (marked-fits ino place (logged_at core.log (track core.tracks place) place)
+              (logged_at core.log (marked (track core.tracks place) false) place) set_.first rest first
+              (λ bit can. can) refl refl)
+          | inr done ↦
+              rw done (set_marked-fits ino place (logged_at core.log (track core.tracks place) place)
+              (logged_at core.log (marked (track core.tracks place) false) place) set_.first rest first
+              (λ bit can. can) (λ bit. refl) refl)
+        ])
+
+    all : WorldMoments (Recovers ino n tried) asked_old world asked_new
+        (with_slots place (new ∷ tails) world)
+        × Shows ino tried (with_slots place (new ∷ tails) world)
+    all = heads-set ino n place 1 1 core tried world head new tails asked_old asked_new shows here
+        (track-differs core place (marked (track core.tracks place) false) some) good
+        (track-shape core place (marked (track core.tracks place) false) some shows.shape beside) room
+        fits sets.moments
+
+    failed : (result : Answer) →
+        OnErr result (Shows ino tried (with_slots place (new ∷ tails) world))
+    failed (Ok value) = tt
+    failed (Err e) = all.1
+
+    first_now : (rest : List (List ℕ)) → IsEachImage IsImage tails rest →
+        SlotFits ino place (logged_at core.log (track core.tracks place) place)
+        (words_of head ∷ rest)
+    first_now rest images =
+        rw old at (shows.slots place (words_of head ∷ rest)
+        (rw here (now_is_image head.history, images)))
+
+    kept_fits : (value : Unit {0}) → SetsWord obeys 1 1 (plain_ok value) asked_old head asked_new new →
+        SlotsShown ino place
+        (logged_at core.log (marked (track core.tracks place) true) place) (new ∷ tails)
+    kept_fits value sets [] images = absurd images
+    kept_fits value sets (image ∷ rest) images =
+        let is : image ≡ set (words_of head) 1 1 =
+        sets.sure image images.0 ∙ ap (λ (s : Seen WordStep). words_of s) sets.ok in
+        rw is (set_marked-on ino place (logged_at core.log (track core.tracks place) place)
+        (logged_at core.log (marked (track core.tracks place) true) place) (words_of head) rest
+        (first_now rest images.1) (λ bit can. refl) long refl refl)
+
+    ended : (result : Answer) → SetsWord obeys 1 1 result asked_old head asked_new new →
+        OnOk result (Shows ino (after core (events.Mark place by true))
+        (with_slots place (new ∷ tails) world))
+    ended (Err e) sets = tt
+    ended (Ok value) sets =
+        slots_show ino place core (after core (events.Mark place by true)) world (new ∷ tails) shows
+        (track-differs core place (marked (track core.tracks place) true) some)
+        (track-shape core place (marked (track core.tracks place) true) some shows.shape beside)
+        (rw (held (marked (track core.tracks place) true)) (kept_fits value sets))
