@@ -17,7 +17,7 @@ use Rattle.cfs_core.specs.declared.track.Track.{Track}
 use Rattle.cfs_core.specs.declared.inode_core.Core.{Core}
 use Rattle.cfs_core.specs.After.{after, change_track, marked, retired, with_track}
 use Rattle.cfs_core.specs.Good.{IsGood}
-use Rattle.cfs_core.specs.May.{is_in_phase, may, may_admit, may_mark, may_skip, span_now}
+use Rattle.cfs_core.specs.May.{is_in_phase, is_next, may, may_admit, may_mark, may_skip, span_now}
 use Rattle.cfs_core.specs.Medium.{placed}
 use Rattle.cfs_core.specs.Words.{blank, can_be, is_noop, is_waiting, track}
 use Rattle.cfs_core.proofs.Legal.{both, same_number}
@@ -388,3 +388,260 @@ marks-show ino n place by core world head new tails obeys result asked_old asked
         (track-differs core place (marked (track core.tracks place) true) some)
         (track-shape core place (marked (track core.tracks place) true) some shows.shape beside)
         (rw (held (marked (track core.tracks place) true)) (kept_fits value sets))
+
+-- ---- admissions
+
+-- lists with one more at their end
+slice-other : {X : Type 0} → (xs : List X) (x : X) (k : ℕ) → k ≢ length xs →
+    slice_get (xs ++ x ∷ []) k ≡ slice_get xs k
+slice-other [] x zero other = absurd (other refl)
+slice-other [] x (suc k) other = refl
+slice-other (y ∷ ys) x zero other = refl
+slice-other (y ∷ ys) x (suc k) other = slice-other ys x k (λ same. other (omega (arith, same)))
+
+slice-last : {X : Type 0} → (xs : List X) (x : X) → slice_get (xs ++ x ∷ []) (length xs) ≡ Some x
+slice-last [] x = refl
+slice-last (y ∷ ys) x = slice-last ys x
+
+get-other : {X : Type 0} → (xs : List X) (x d : X) (k : ℕ) → k ≢ length xs →
+    get_or (xs ++ x ∷ []) k d ≡ get_or xs k d
+get-other [] x d zero other = absurd (other refl)
+get-other [] x d (suc k) other = refl
+get-other (y ∷ ys) x d zero other = refl
+get-other (y ∷ ys) x d (suc k) other = get-other ys x d k (λ same. other (omega (arith, same)))
+
+get-last : {X : Type 0} → (xs : List X) (x d : X) → get_or (xs ++ x ∷ []) (length xs) d ≡ x
+get-last [] x d = refl
+get-last (y ∷ ys) x d = get-last ys x d
+
+entry-other : (log : List Entry) (entry : Entry) (at : ℕ) → at ≢ length log + 1 →
+    entry_of (log ++ entry ∷ []) at ≡ entry_of log at
+entry-other log entry at other = test (at == 0) refl
+  where
+    zero_no : at ≡ 0 → (at == 0) ≡ false → ⊥
+    zero_no same is = let test : (0 == 0) ≡ false = subst (λ n. (n == 0) ≡ false) same is in cc
+
+    test : (b : Bool) → (at == 0) ≡ b → entry_of (log ++ entry ∷ []) at ≡ entry_of log at
+    test true is = rw is refl
+    test false is =
+        let some : at ≢ 0 = λ same. zero_no same is in
+        rw is (slice-other log entry (at - 1) (λ same. other (omega (arith, same, some))))
+
+track-other : (tracks : List Track) (t : Track) (at : ℕ) → at ≢ length tracks + 1 →
+    track (tracks ++ t ∷ []) at ≡ track tracks at
+track-other tracks t at other = elim (same_or_not at 0) [
+  | inl same ↦ rw same refl
+  | inr some ↦
+      track_is (tracks ++ t ∷ []) at (at - 1) some refl
+      ∙ (get-other tracks t blank (at - 1) (λ same. other (omega (arith, same, some)))
+      ∙ sym (track_is tracks at (at - 1) some refl))
+]
+
+-- words whose gate is opened are else as they were
+gate_keeps : (words : List ℕ) (place : ℕ) (tails : List (List ℕ)) → 0 < length words →
+    (gate_of (set words 0 place) ≡ place) × ((mark_of (set words 0 place) ≡ mark_of words)
+    × ((ino_of (set words 0 place) ≡ ino_of words)
+    × (request_of (set words 0 place) tails ≡ request_of words tails)))
+gate_keeps [] place tails some = absurd (omega arith)
+gate_keeps (gate ∷ words) place tails some = (refl, (refl, (refl, refl)))
+
+-- what fits a request whose gate may be open
+opened-fits : (ino place : ℕ) (now : Holding) (request : Request) (words : List ℕ)
+    (tails : List (List ℕ)) → IsStagedAs ino request words tails →
+    can_be now.gate true ≡ true → now.mark ≡ Off → now.request ≡ Some request → 0 < place →
+    0 < length words → SlotFits ino place now (set words 0 place ∷ tails)
+opened-fits ino place now request words tails staged gate mark asked some long =
+    let keeps = gate_keeps words place tails long in
+    let opened : is_gated (set words 0 place) ≡ true =
+    let other : place ≢ 0 = λ same. omega (arith, same, some) in
+    let test : (place == 0) ≡ false = grind (arith, nat_tests) in
+    ap (λ (g : ℕ). not (g == 0)) keeps.0 ∙ rw test refl in
+    record {
+      gate = rw opened gate;
+      number = λ gated. keeps.0;
+      mark = λ gated. rw (mark, keeps.1.0, staged.mark) refl;
+      file = λ gated. keeps.1.1.0 ∙ staged.file;
+      request = λ gated. asked ∙ ap (λ (r : Request). Some r) (sym (keeps.1.1.1 ∙ staged.is));
+    }
+
+closed-fits : (ino place : ℕ) (now : Holding) (words : List ℕ) (tails : List (List ℕ)) →
+    gate_of words ≡ 0 → can_be now.gate false ≡ true → SlotFits ino place now (words ∷ tails)
+closed-fits ino place now words tails zero_ gate =
+    let closed : is_gated words ≡ false = rw zero_ refl in
+    record {
+      gate = rw closed gate;
+      number = λ gated. cc;
+      mark = λ gated. cc;
+      file = λ gated. cc;
+      request = λ gated. cc;
+    }
+
+none_is : (o : Option Doubt) → is_none o ≡ true → o ≡ None
+none_is None h = refl
+none_is (Some d) h = cc
+
+pub admissions-show : AdmissionsShow
+admissions-show ino n grant entry core world head new tails obeys result asked_old asked_new good shows
+    allowed room here long staged sets = record {
+  moments = all.0;
+  ok = ended result sets;
+  err = failed result;
+}
+  where
+    tried : Core
+    tried = after core (events.Admit entry grant false)
+
+    kept_core : Core
+    kept_core = after core (events.Admit entry grant true)
+
+    request : Request
+    request = placed (span_now core entry.request) entry.request
+
+    admits : may_admit core entry ≡ true
+    admits = (both (is_in_phase core.crashed (events.Admit entry grant true)) (may_admit core entry)
+        allowed).1
+
+    settled : core.doubt ≡ None
+    settled = none_is core.doubt (both (is_none core.doubt) _ admits).0
+
+    place_is : entry.place ≡ length core.log + 1
+    place_is = same_number entry.place (length core.log + 1)
+        (both (is_next core entry) _ (both (is_none core.doubt) _ admits).1).0
+
+    plain : (at : ℕ) →
+        holding core core.doubt at ≡ logged_at core.log (track core.tracks at) at
+    plain at = ap (λ (o : Option Doubt). holding core o at) settled
+
+    differs : DiffersAt entry.place core tried
+    differs = record {
+      size = refl;
+      sizes = refl;
+      tags = refl;
+      loose = refl;
+      bytes = refl;
+      held = λ at other.
+          holding-logged tried tried.doubt at (λ d same number. other (sym
+          (sym (some_place_same d _ (sym same)) ∙ number)))
+          ∙ sym (plain at);
+    }
+
+    free : (track core.tracks entry.place).gate ≡ Off
+    free =
+        let some : entry.place ≡ 0 → ⊥ = λ same. omega (arith, same, place_is) in
+        ap (λ (t : Track). t.gate) (track_is core.tracks entry.place (entry.place - 1) some refl
+        ∙ get_or_past core.tracks (entry.place - 1) blank
+        (omega (arith, place_is, shows.shape.tracks)))
+
+    shape : HasShape tried
+    shape = record {
+      tags = shows.shape.tags;
+      tracks = shows.shape.tracks;
+      doubt = λ d is.
+          let number : d.entry.place ≡ entry.place = some_place_same d _ (sym is) in
+          record {
+            from = omega (arith, number, place_is);
+            to = omega (arith, number, place_is);
+            apart = rw number free;
+          };
+      loose = shows.shape.loose;
+    }
+
+    held : holding tried tried.doubt entry.place
+        ≡ record { gate = Unsure; mark = Off; request = Some request }
+    held = rw (equal_test entry.place) refl
+
+    fits : (image : List ℕ) (rest : List (List ℕ)) → IsSetFrom head 0 entry.place image →
+        IsEachImage IsImage tails rest →
+        SlotFits ino entry.place (holding tried tried.doubt entry.place) (image ∷ rest)
+    fits image rest set_ images =
+        rw held (elim set_.same [
+          | inl same ↦
+              closed-fits ino entry.place
+              (record { gate = Unsure; mark = Off; request = Some request }) image rest
+              (rw same (staged set_.first rest set_.possible images).gate) refl
+          | inr done ↦
+              rw done (opened-fits ino entry.place
+              (record { gate = Unsure; mark = Off; request = Some request }) request set_.first rest
+              (staged set_.first rest set_.possible images) refl refl refl (omega (arith, place_is))
+              (omega (arith, set_.possible.size, long)))
+        ])
+
+    all : WorldMoments (Recovers ino n tried) asked_old world asked_new
+        (with_slots entry.place (new ∷ tails) world)
+        × Shows ino tried (with_slots entry.place (new ∷ tails) world)
+    all = heads-set ino n entry.place 0 entry.place core tried world head new tails asked_old asked_new
+        shows here differs good shape room fits sets.moments
+
+    failed : (result : Answer) →
+        OnErr result (Shows ino tried (with_slots entry.place (new ∷ tails) world))
+    failed (Ok value) = tt
+    failed (Err e) = all.1
+
+    kept_differs : DiffersAt entry.place core kept_core
+    kept_differs = record {
+      size = refl;
+      sizes = refl;
+      tags = refl;
+      loose = refl;
+      bytes = refl;
+      held = λ at other. holding-same core kept_core core.doubt at
+          (logged-other at (λ same. other (omega (arith, same, place_is))));
+    }
+      where
+        logged-other : (at : ℕ) → at ≢ length core.log + 1 →
+            logged_at kept_core.log (track kept_core.tracks at) at
+            ≡ logged_at core.log (track core.tracks at) at
+        logged-other at other =
+            rw (entry-other core.log entry at other,
+            track-other core.tracks (change_track grant (span_now core entry.request)) at
+            (λ same. other (omega (arith, same, shows.shape.tracks)))) refl
+
+    kept_shape : HasShape kept_core
+    kept_shape = record {
+      tags = shows.shape.tags;
+      tracks = omega (arith, shows.shape.tracks,
+          length-append core.tracks (change_track grant (span_now core entry.request) ∷ []),
+          length-append core.log (entry ∷ []));
+      doubt = λ d is. let none : None ≡ Some d = sym settled ∙ is in cc;
+      loose = shows.shape.loose;
+    }
+
+    kept_held : holding kept_core kept_core.doubt entry.place
+        ≡ record { gate = On; mark = Off; request = Some request }
+    kept_held =
+        let t : Track = change_track grant (span_now core entry.request) in
+        let some : entry.place ≡ 0 → ⊥ = λ same. omega (arith, same, place_is) in
+        let index : entry.place - 1 ≡ length core.log = omega (arith, place_is) in
+        let track_here : track kept_core.tracks entry.place ≡ t =
+        track_is kept_core.tracks entry.place (entry.place - 1) some refl
+        ∙ (ap (λ (k : ℕ). get_or kept_core.tracks k blank) (index ∙ sym shows.shape.tracks)
+        ∙ get-last core.tracks t blank) in
+        let test : (entry.place == 0) ≡ false = grind (arith, nat_tests) in
+        let entry_here : entry_of kept_core.log entry.place ≡ Some entry =
+        ap (λ (b : Bool). if b then None else slice_get kept_core.log (entry.place - 1)) test
+        ∙ (ap (λ (k : ℕ). slice_get kept_core.log k) index ∙ slice-last core.log entry) in
+        ap (λ (o : Option Doubt). holding kept_core o entry.place) settled
+        ∙ (ap (λ (u : Track). logged_at kept_core.log u entry.place) track_here
+        ∙ ap (λ (o : Option Entry). record {
+          gate = On;
+          mark = Off;
+          request = option_map (λ (e : Entry). placed (span_now core entry.request) e.request) o;
+        }) entry_here)
+
+    kept_fits : (value : Unit {0}) → SetsWord obeys 0 entry.place (plain_ok value) asked_old head asked_new new →
+        SlotsShown ino entry.place (record { gate = On; mark = Off; request = Some request }) (new ∷ tails)
+    kept_fits value sets [] images = absurd images
+    kept_fits value sets (image ∷ rest) images =
+        let is : image ≡ set (words_of head) 0 entry.place =
+        sets.sure image images.0 ∙ ap (λ (s : Seen WordStep). words_of s) sets.ok in
+        rw is (opened-fits ino entry.place (record { gate = On; mark = Off; request = Some request })
+        request (words_of head) rest
+        (staged (words_of head) rest (now_is_image head.history) images.1) refl refl refl
+        (omega (arith, place_is)) long)
+
+    ended : (result : Answer) → SetsWord obeys 0 entry.place result asked_old head asked_new new →
+        OnOk result (Shows ino kept_core (with_slots entry.place (new ∷ tails) world))
+    ended (Err e) sets = tt
+    ended (Ok value) sets =
+        slots_show ino entry.place core kept_core world (new ∷ tails) shows kept_differs kept_shape
+        (rw kept_held (kept_fits value sets))

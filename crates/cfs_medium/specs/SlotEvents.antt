@@ -81,7 +81,7 @@ AdmissionsShow =
     (asked_old asked_new : List Asked) →
     IsGood (after core (events.Admit entry grant false)) → Shows ino core world →
     may core (events.Admit entry grant true) ≡ true → length core.log + 2 ≤ n →
-    world.slots entry.place ≡ head ∷ tails →
+    world.slots entry.place ≡ head ∷ tails → 0 < length (words_of head) →
     AreStagedAs ino (placed (span_now core entry.request) entry.request) head tails →
     SetsWord obeys 0 entry.place result asked_old head asked_new new →
     Leads ino n entry.place (after core (events.Admit entry grant false))

@@ -10,7 +10,7 @@ mod recovery;
 
 ghost use Rattle.cfs_medium.specs.Laws.{BlocksMayChange, BlocksMayCome, BlocksOfOthersStay, DepictedStoresRecover, EmptyStoresDepict, FittingRemainsRecover, GatesMayClose, HeadsMayBeSet, RunsAreRecovered, ShownWorldsRecover, ShutSlotsShow, SizesMayBeSet, SlotsMayCome, SlotsOfOthersStay, TagsAreApart};
 
-ghost use Rattle.cfs_medium.specs.SlotEvents.{SettlesShow, SkipsShow};
+ghost use Rattle.cfs_medium.specs.SlotEvents.{AdmissionsShow, MarksShow, SettlesShow, SkipsShow};
 
 pub use recovery::{BlockFound, recover};
 
@@ -97,6 +97,16 @@ pub fn skips_show()
 /// The gate of the request in doubt may be closed, and the devices show it settled.
 pub fn settles_show()
     ensures { SettlesShow }
+{}
+
+/// The gate of a change may be opened with the next place, and the devices show it admitted, or in doubt.
+pub fn admissions_show()
+    ensures { AdmissionsShow }
+{}
+
+/// A waiting entry may be marked, and the devices show it marked, or that it may be.
+pub fn marks_show()
+    ensures { MarksShow }
 {}
 
 /// A store that has nothing of an inode depicts the core of an empty file.
