@@ -1,0 +1,4 @@
+pub mod ChainLemmas
+pub mod GateLemmas
+pub mod ListLemmas
+pub mod ResultLemmas
