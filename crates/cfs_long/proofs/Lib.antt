@@ -2,3 +2,4 @@ pub mod ChainLemmas
 pub mod GateLemmas
 pub mod ListLemmas
 pub mod ResultLemmas
+pub mod ShapeLemmas

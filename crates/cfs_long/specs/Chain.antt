@@ -7,13 +7,17 @@ use Rattle.cfs_pmem.specs.Images.{Seen, WordStep, words_of}
 use Rattle.cfs_pmem.specs.WordOps.{WordOp}
 use Rattle.cfs_slot.specs.Operations.{stage_ops, part_ops, head_ops}
 use Rattle.cfs_slot.specs.Staging.{IsPart, IsStageable, IsLong, staged_payload}
-use Rattle.cfs_slot.specs.Tails.{AreAbove}
+use Rattle.cfs_slot.specs.Tails.{AreAbove, queue_of}
 use Rattle.cfs_slot.specs.Words.{IsClosed}
 use Rattle.cfs_slot.specs.Writing.{WritesSlot}
 
 -- a write or an append of 1 to 65,536 bytes, or a truncate
 abbrev pub IsChained : Request → Type 0
 IsChained request = IsStageable request ⊎ IsLong request
+
+-- the slot with the next device number is of the first one's queue and stands above it
+abbrev pub IsAbove : ℕ → ℕ → Type 0
+IsAbove first next = (323 ≤ first) × (first < next) × (queue_of next ≡ queue_of first)
 
 -- the slots with these device numbers are of one queue and ascend, and there is one at least
 abbrev pub AreChain : List ℕ → Type 0

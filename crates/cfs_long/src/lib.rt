@@ -3,5 +3,7 @@
 
 mod chain;
 mod lists;
+mod room;
 
 pub use chain::stage_chain;
+pub use room::{are_chain, is_chained, slots_for};

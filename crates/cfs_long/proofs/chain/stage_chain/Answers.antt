@@ -1,11 +1,11 @@
-use Rattle.std.proofs.Common.{ℕ, ◌+◌, ◌≡◌, ◌∙◌, Bool, true, false, List, [], ◌∷◌, ◌++◌, length, drop, is_ok, map, reverse, refl, sym, ap, subst, arith}
+use Rattle.std.proofs.Common.{ℕ, ◌+◌, ◌≡◌, ◌∙◌, Bool, true, false, List, [], ◌∷◌, ◌++◌, length, drop, is_ok, map, reverse, refl, sym, ap, subst, arith, rules}
 use Rattle.std.proofs.lemmas.List.{length-map, length-reverse}
 use Rattle.std.specs.Option.{option_to_list}
 use Rattle.cfs_pmem.specs.declared.trace.Asked.{Asked}
 use Rattle.cfs_vec.specs.Items.{items_of}
 use Rattle.cfs_slot.specs.declared.slot.Slot.{Slot}
 use Rattle.cfs_slot.specs.Regions.{devices_in, of_slots, slot_numbers}
-use Rattle.cfs_slot.specs.Staging.{IsLong, staged_payload}
+use Rattle.cfs_slot.specs.Staging.{IsLong, IsStageable, slots_for, staged_payload}
 use Rattle.cfs_slot.specs.Tails.{AreAbove}
 use Rattle.cfs_slot.proofs.StagedLemmas.{payload_most}
 use Rattle.cfs_long.specs.After.{after_chain, from_last}
@@ -39,30 +39,29 @@ unreachable-requires g c = omega (
   length-map (items_of c.args.slots) (λ (s : Slot g.row.R.Denot g.R.Region). s.region),
 )
 
-pub stage_long-requires-clause-long : goal.stage_long-requires-clause-long
-stage_long-requires-clause-long g c = c.is_long.ensures.0 c.if-is_long.true
-
-pub stage_long-requires-clause-count : goal.stage_long-requires-clause-count
-stage_long-requires-clause-count g c =
+pub stage_long-requires : goal.stage_long-requires
+stage_long-requires g c =
+    let region = λ (s : Slot g.row.R.Denot g.R.Region). s.region in
     let popped : items_of c.reverse.new.self ≡ items_of c.pop.new.self ++ c.in-Some.head ∷ [] = c.pop.ensures.items ∙ ap (λ o. items_of c.pop.new.self ++ option_to_list o) c.in-Some.is in
-    omega (
+    let long : IsLong c.args.request.now = c.is_long.ensures.0 c.if-is_long.true in
+    let count : length (of_slots c.pop.new.self) + 1 ≡ slots_for (length (staged_payload c.args.request.now)) = omega (
       arith,
       c.requires.count,
       one_less (items_of c.reverse.new.self) (items_of c.pop.new.self) c.in-Some.head popped,
       ap (λ xs. length xs) c.reverse.ensures.items,
       length-reverse (items_of c.args.slots),
-      length-map (items_of c.args.slots) (λ (s : Slot g.row.R.Denot g.R.Region). s.region),
-      length-map (items_of c.pop.new.self) (λ (s : Slot g.row.R.Denot g.R.Region). s.region),
-    )
-
-pub stage_long-requires-clause-above : goal.stage_long-requires-clause-above
-stage_long-requires-clause-above g c =
-    let popped : items_of c.reverse.new.self ≡ items_of c.pop.new.self ++ c.in-Some.head ∷ [] = c.pop.ensures.items ∙ ap (λ o. items_of c.pop.new.self ++ option_to_list o) c.in-Some.is in
-    let regions = first_of_all (λ (s : Slot g.row.R.Denot g.R.Region). s.region) (items_of c.args.slots) (items_of c.reverse.new.self) (items_of c.pop.new.self) c.in-Some.head c.reverse.ensures.items popped in
-    subst (λ rs. AreChain (devices_in g.R.Region.seen rs)) regions c.requires.chain
+      length-map (items_of c.args.slots) region,
+      length-map (items_of c.pop.new.self) region,
+    ) in
+    let regions = first_of_all region (items_of c.args.slots) (items_of c.reverse.new.self) (items_of c.pop.new.self) c.in-Some.head c.reverse.ensures.items popped in
+    let above : AreAbove (g.R.Region.seen c.in-Some.head.region).device (devices_in g.R.Region.seen (from_last c.pop.new.self)) =
+    subst (λ rs. AreChain (devices_in g.R.Region.seen rs)) regions c.requires.chain in
+    search (rules, long, count, above)
 
 pub stage_short-requires : goal.stage_short-requires
-stage_short-requires g c = is_short c.args.request.now c.requires.chained (λ long. both c.is_long.result (c.is_long.ensures.1 long) c.if-is_long.false)
+stage_short-requires g c =
+    let short : IsStageable c.args.request.now = is_short c.args.request.now c.requires.chained (λ long. both c.is_long.result (c.is_long.ensures.1 long) c.if-is_long.false) in
+    search (rules, short)
 
 pub returns-then-is_long : goal.returns-then-is_long
 returns-then-is_long g c =
