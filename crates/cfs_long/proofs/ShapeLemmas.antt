@@ -1,5 +1,6 @@
 -- Slots of one queue, one above the other.
-use Rattle.std.proofs.Common.{ℕ, zero, suc, ◌+◌, ◌-◌, ◌==◌, ◌<◌, ◌≤◌, ◌≡◌, ◌↔◌, true, false, List, [], ◌∷◌, length, get_or, take, refl, sym, subst, arith}
+use Rattle.std.proofs.Common.{ℕ, zero, suc, ◌+◌, ◌-◌, ◌==◌, ◌<◌, ◌≤◌, ◌≡◌, ◌↔◌, true, false, List, [], ◌∷◌, length, get_or, take, inl, inr, sym, subst, arith}
+use Rattle.std.proofs.lemmas.Bool.{cases_eq, ne_eqb}
 use Rattle.std.specs.Prelude.{IsTrue}
 use Rattle.cfs_slot.specs.Tails.{AreAbove}
 use Rattle.cfs_long.specs.Chain.{AreChain, IsAbove}
@@ -43,8 +44,10 @@ none_chain [] e chain = chain
 none_chain (first ∷ rest) e chain = omega (arith, e)
 
 pub is_none : (n : ℕ) → (n == 0) ≡ true → n ≡ 0
-is_none zero e = refl
-is_none (suc n) e = cc
+is_none n e = elim (cases_eq n 0) [
+  | inl here ↦ here
+  | inr other ↦ let not_none : (n == 0) ≡ false = ne_eqb n 0 other in cc
+]
 
 pub is_some : (n : ℕ) → (n == 0) ≡ false → 0 < n
 is_some zero e = cc
@@ -52,4 +55,4 @@ is_some (suc n) e = omega arith
 
 -- a test that fails
 pub never : {P : Type 0} → (P → ⊥) → IsTrue false ↔ P
-never no = (λ e. cc, λ p. absurd (no p))
+never none = (λ e. cc, λ p. absurd (none p))

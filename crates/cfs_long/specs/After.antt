@@ -11,10 +11,12 @@ use Rattle.cfs_slot.specs.Regions.{of_slots, of_parts, of_staged, tails_of_stage
 abbrev pub from_last : {R : Type 0} {g : _} {N : ℕ} → FixedVec (Slot R g) N → List R
 from_last {R} {g} slots = map (λ (s : Slot R g). s.region) (reverse (items_of slots))
 
-abbrev pub after_tails : {R : Type 0} {g : _} {N M : ℕ} → Result (FixedVec (Part R g) N) (FixedVec (Slot R g) M) → List R
+abbrev pub after_tails : {R : Type 0} {g : _} {N M : ℕ}
+    → Result (FixedVec (Part R g) N) (FixedVec (Slot R g) M) → List R
 after_tails (Ok parts) = of_parts parts
 after_tails (Err slots) = of_slots slots
 
-abbrev pub after_chain : {R : Type 0} {g : _} {M : ℕ} → Result (Staged R g) (FixedVec (Slot R g) M) → List R
+abbrev pub after_chain : {R : Type 0} {g : _} {M : ℕ}
+    → Result (Staged R g) (FixedVec (Slot R g) M) → List R
 after_chain (Ok staged) = of_staged staged ∷ tails_of_staged staged
 after_chain (Err slots) = of_slots slots

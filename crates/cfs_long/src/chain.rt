@@ -57,9 +57,11 @@ fn stage_short<R: Region + Drop, P: Power>(
     grant: u64,
 ) -> Result<Staged<R>, FixedVec<Slot<R>, QUEUE_SLOTS>>
     requires { IsStageable request.now }
-    ensures stages { StagesChain R.seen R.faults R.obeys_power ino grant request.now [] (is_ok result)
+    ensures stages { StagesChain R.seen R.faults R.obeys_power ino grant request.now []
+        (is_ok result)
         (P.asked power.old) (of_slot head ∷ []) (P.asked power.new) (after_chain result) }
-    ensures staged { IfOk result (λ staged. IsStaged ino request.now grant (words_of (R.seen (of_staged staged)))) }
+    ensures staged { IfOk result (λ staged.
+        IsStaged ino request.now grant (words_of (R.seen (of_staged staged)))) }
     ensures tails { IfOk result (λ staged. tails_of_staged staged ≡ []) }
     ensures sure { IfOk result (λ staged. IsSure (R.seen (of_staged staged))) }
 {
@@ -80,11 +82,13 @@ fn stage_long<R: Region + Drop, P: Power>(
     grant: u64,
 ) -> Result<Staged<R>, FixedVec<Slot<R>, QUEUE_SLOTS>>
     requires long { IsLong request.now }
-    requires count { length (of_slots others) + 1 ≡ slots_for (length (staged_payload request.now)) }
+    requires count { length (of_slots others) + 1
+        ≡ slots_for (length (staged_payload request.now)) }
     requires above { AreAbove (R.seen (of_slot head)).device (devices_in R.seen (from_last others)) }
     ensures stages { StagesChain R.seen R.faults R.obeys_power ino grant request.now
         (slot_numbers R.seen (from_last others)) (is_ok result)
-        (P.asked power.old) (of_slot head ∷ from_last others) (P.asked power.new) (after_chain result) }
+        (P.asked power.old) (of_slot head ∷ from_last others)
+        (P.asked power.new) (after_chain result) }
     ensures staged { IfOk result (λ staged.
         IsStagedLong ino request.now grant (slot_numbers R.seen (tails_of_staged staged))
         (words_of (R.seen (of_staged staged))) (words_in R.seen (tails_of_staged staged))) }

@@ -7,3 +7,6 @@ mod room;
 
 pub use chain::stage_chain;
 pub use room::{are_chain, is_chained, slots_for};
+
+#[cfg(test)]
+mod tests;

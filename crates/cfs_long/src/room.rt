@@ -50,7 +50,8 @@ pub fn are_chain<R: Region + Drop>(slots: &FixedVec<Slot<R>, QUEUE_SLOTS>) -> bo
 fn is_next<R: Region + Drop>(slots: &FixedVec<Slot<R>, QUEUE_SLOTS>, at: usize) -> bool
     requires some { 0 < at }
     requires within { at < length (of_slots slots.now) }
-    ensures { IsTrue result ↔ IsAbove (get_or (devices_in R.seen (of_slots slots.now)) (at - 1) 0)
+    ensures { IsTrue result ↔
+        IsAbove (get_or (devices_in R.seen (of_slots slots.now)) (at - 1) 0)
         (get_or (devices_in R.seen (of_slots slots.now)) at 0) }
 {
     let below = slots.at(at - 1);
@@ -60,7 +61,7 @@ fn is_next<R: Region + Drop>(slots: &FixedVec<Slot<R>, QUEUE_SLOTS>, at: usize) 
     is_above(first, above)
 }
 
-/// Whether the slot with the next device number is of the queue of the first one, and stands above it.
+/// Whether the slot with the next device number is of the queue of the first one, and above it.
 fn is_above(first: u32, next: u32) -> bool
     ensures { IsTrue result ↔ IsAbove first next }
 {

@@ -25,7 +25,7 @@ pub stage_part-requires-clause-some : goal.stage_part-requires-clause-some
 stage_part-requires-clause-some g c =
     let popped : items_of c.loop-slot.slots ≡ items_of c.pop.new.self ++ c.in-Some.slot ∷ [] = c.pop.ensures.items ∙ ap (λ o. items_of c.pop.new.self ++ option_to_list o) c.in-Some.is in
     let some : 0 < length c.loop-slot.left.now = bytes_left (length (items_of c.pop.new.self)) (length c.loop-slot.left.now)
-        (sym (one_less (items_of c.loop-slot.slots) (items_of c.pop.new.self) c.in-Some.slot popped) ∙ c.loop-slot.invariant.count) in
+    (sym (one_less (items_of c.loop-slot.slots) (items_of c.pop.new.self) c.in-Some.slot popped) ∙ c.loop-slot.invariant.count) in
     omega (arith, some, c.min.ensures, c.split_at.ensures.front_len)
 
 pub push-requires : goal.push-requires
@@ -60,8 +60,13 @@ loop-slot-preserved g c =
 
 pub with_parts-given-requires : goal.with_parts-given-requires
 with_parts-given-requires g c =
-    omega (arith, c.loop-slot.invariant.room, ap (λ xs. length xs) c.new.ensures, length-map (items_of c.new.result) (λ (s : Slot g.row.R.Denot g.R.Region). s.region),
-    length-map (items_of c.loop-slot.parts) (λ (p : Part g.row.R.Denot g.R.Region). p.region))
+    omega (
+      arith,
+      c.loop-slot.invariant.room,
+      ap (λ xs. length xs) c.new.ensures,
+      length-map (items_of c.new.result) (λ (s : Slot g.row.R.Denot g.R.Region). s.region),
+      length-map (items_of c.loop-slot.parts) (λ (p : Part g.row.R.Denot g.R.Region). p.region),
+    )
 
 pub push-requires-in-Err : goal.push-requires-in-Err
 push-requires-in-Err g c =
@@ -120,14 +125,14 @@ returns g c =
     let empty : c.loop-slot.left.now ≡ [] = nothing c.loop-slot.left.now (omega (arith, inv.count, ap (λ xs. length xs) none)) in
     record {
       stages = subst (λ regions. StagesTails g.R.Region.seen g.R.Region.faults g.R.Region.obeys_power c.args.ino c.args.grant c.args.bytes.now true
-    (g.P.Power.asked c.args.power.now) (from_last c.args.slots) (g.P.Power.asked c.loop-slot.power) regions)
-    (append-nil (of_parts c.loop-slot.parts))
-    (inv.so_far true (g.P.Power.asked c.loop-slot.power) []
-    (subst (λ (slots : List (Slot g.row.R.Denot g.R.Region)). StagesTails g.R.Region.seen g.R.Region.faults g.R.Region.obeys_power c.args.ino c.args.grant c.loop-slot.left.now true
-    (g.P.Power.asked c.loop-slot.power) (map (λ (s : Slot g.row.R.Denot g.R.Region). s.region) (reverse slots)) (g.P.Power.asked c.loop-slot.power) [])
-    (sym none)
-    (subst (λ (bytes : List ℕ). StagesTails g.R.Region.seen g.R.Region.faults g.R.Region.obeys_power c.args.ino c.args.grant bytes true
-    (g.P.Power.asked c.loop-slot.power) [] (g.P.Power.asked c.loop-slot.power) []) (sym empty) all_staged)));
+          (g.P.Power.asked c.args.power.now) (from_last c.args.slots) (g.P.Power.asked c.loop-slot.power) regions)
+          (append-nil (of_parts c.loop-slot.parts))
+          (inv.so_far true (g.P.Power.asked c.loop-slot.power) []
+          (subst (λ (slots : List (Slot g.row.R.Denot g.R.Region)). StagesTails g.R.Region.seen g.R.Region.faults g.R.Region.obeys_power c.args.ino c.args.grant c.loop-slot.left.now true
+          (g.P.Power.asked c.loop-slot.power) (map (λ (s : Slot g.row.R.Denot g.R.Region). s.region) (reverse slots)) (g.P.Power.asked c.loop-slot.power) [])
+          (sym none)
+          (subst (λ (bytes : List ℕ). StagesTails g.R.Region.seen g.R.Region.faults g.R.Region.obeys_power c.args.ino c.args.grant bytes true
+          (g.P.Power.asked c.loop-slot.power) [] (g.P.Power.asked c.loop-slot.power) []) (sym empty) all_staged)));
     }
   where
     nothing : {A : Type 0} (xs : List A) → length xs ≡ 0 → xs ≡ []

@@ -12,7 +12,7 @@ invariant-loop-slot g l = record {
   so_far : (whole : Bool) (last : List Asked) (news : List g.row.R.Denot)
       → StagesTails g.R.Region.seen g.R.Region.faults g.R.Region.obeys_power l.fn.ino l.fn.grant l.left whole (g.P.Power.asked l.power) (from_last l.slots) last news
       → StagesTails g.R.Region.seen g.R.Region.faults g.R.Region.obeys_power l.fn.ino l.fn.grant l.fn.bytes whole (g.P.Power.asked l.initial.power) (from_last l.fn.slots)
-          last (of_parts l.parts ++ news);
+      last (of_parts l.parts ++ news);
   count : length (items_of l.slots) ≡ (length l.left + 4095) / 4096;
   room : length (items_of l.parts) + length (items_of l.slots) ≤ 15;
 }

@@ -13,8 +13,14 @@ loop-part-init g c =
     let turned = ap (λ ps. reverse ps) c.reverse.ensures.items ∙ reverse-reverse (items_of c.args.parts) in
     record {
       moved = ap (λ ps. of_slots c.args.slots ++ map (λ (p : Part g.row.R.Denot g.R.Region). of_part p) ps) turned;
-      room = omega (arith, c.requires, length-map (items_of c.args.slots) (λ (s : Slot g.row.R.Denot g.R.Region). s.region), length-map (items_of c.args.parts) (λ (p : Part g.row.R.Denot g.R.Region). p.region),
-          ap (λ ps. length ps) c.reverse.ensures.items, length-reverse (items_of c.args.parts));
+      room = omega (
+        arith,
+        c.requires,
+        length-map (items_of c.args.slots) (λ (s : Slot g.row.R.Denot g.R.Region). s.region),
+        length-map (items_of c.args.parts) (λ (p : Part g.row.R.Denot g.R.Region). p.region),
+        ap (λ ps. length ps) c.reverse.ensures.items,
+        length-reverse (items_of c.args.parts),
+      );
     }
 
 pub loop-part-preserved : goal.loop-part-preserved
@@ -26,8 +32,14 @@ loop-part-preserved g c =
       moved = ap (λ xs. map (λ (s : Slot g.row.R.Denot g.R.Region). s.region) xs ++ map (λ (p : Part g.row.R.Denot g.R.Region). of_part p) (reverse (items_of c.pop.new.self))) c.push.ensures
           ∙ one_moved (λ (s : Slot g.row.R.Denot g.R.Region). s.region) (λ (p : Part g.row.R.Denot g.R.Region). p.region) (items_of c.loop-part.slots) (items_of c.loop-part.parts) (items_of c.pop.new.self) slot c.in-Some.part c.cancel.ensures popped
           ∙ inv.moved;
-      room = omega (arith, inv.room, ap (λ xs. length xs) c.push.ensures, length-append (items_of c.loop-part.slots) (slot ∷ []),
-          ap (λ xs. length xs) popped, length-append (items_of c.pop.new.self) (c.in-Some.part ∷ []));
+      room = omega (
+        arith,
+        inv.room,
+        ap (λ xs. length xs) c.push.ensures,
+        length-append (items_of c.loop-part.slots) (slot ∷ []),
+        ap (λ xs. length xs) popped,
+        length-append (items_of c.pop.new.self) (c.in-Some.part ∷ []),
+      );
     }
 
 pub returns : goal.returns

@@ -22,8 +22,14 @@ loop-slot-preserved g c =
       moved = ap (λ xs. map (λ (s : Slot g.row.R.Denot g.R.Region). s.region) xs ++ map (λ (s : Slot g.row.R.Denot g.R.Region). of_slot s) (reverse (items_of c.pop.new.self))) c.push.ensures
           ∙ one_moved (λ (s : Slot g.row.R.Denot g.R.Region). s.region) (λ (s : Slot g.row.R.Denot g.R.Region). s.region) (items_of c.loop-slot.slots) (items_of c.loop-slot.others) (items_of c.pop.new.self) slot slot refl popped
           ∙ inv.moved;
-      room = omega (arith, inv.room, ap (λ xs. length xs) c.push.ensures, length-append (items_of c.loop-slot.slots) (slot ∷ []),
-          ap (λ xs. length xs) popped, length-append (items_of c.pop.new.self) (slot ∷ []));
+      room = omega (
+        arith,
+        inv.room,
+        ap (λ xs. length xs) c.push.ensures,
+        length-append (items_of c.loop-slot.slots) (slot ∷ []),
+        ap (λ xs. length xs) popped,
+        length-append (items_of c.pop.new.self) (slot ∷ []),
+      );
     }
 
 pub returns : goal.returns
