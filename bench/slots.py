@@ -1,9 +1,10 @@
 #!/usr/bin/env python3
-"""Times a request's way through a slot in memory, in nanoseconds, beside a C loop that copies its bytes.
+"""Times a request's way through its slots in memory, in nanoseconds, beside a C loop that copies its bytes.
 
-`cfs_bench N` stages, opens and closes N requests of 4096 bytes. Two counts are timed, and the
-difference is divided by the difference of the counts, so that starting the program does not count. The
-C loop copies the same 4096 bytes twice a request, since a region keeps a durable and a present copy.
+`cfs_bench N` stages, opens and closes N requests of 4096 bytes, and `cfs_bench long N` such of 65,536 bytes
+in 16 slots. Two counts are timed, and the difference is divided by the difference of the counts, so that
+starting the program does not count. The C loop copies the same bytes twice a request, slot by slot, since a
+region keeps a durable and a present copy.
 Build the program first (`rt ci` does, and `rt run -- 10` in crates/cfs_bench), then run `bench/slots.py [PROGRAM]`.
 """
 import os
@@ -14,7 +15,7 @@ from timing import compiled, round_of
 
 TOP = os.path.dirname(os.path.dirname(os.path.abspath(__file__)))
 PROGRAM = sys.argv[1] if len(sys.argv) > 1 else os.path.join(TOP, "crates/cfs_bench/out/cfs_bench")
-FEW, MANY = 100_000, 1_100_000
+SIZES = [(1, [], 100_000, 1_100_000), (16, ["long"], 6_000, 66_000)]
 RUNS = 7
 
 COPIES = r"""
@@ -22,16 +23,19 @@ COPIES = r"""
 #include <stdlib.h>
 #include <string.h>
 
+static unsigned char payload[16][4096], present[16][4144], durable[16][4144];
+
 int main(int argc, char **argv) {
-    static unsigned char payload[4096], present[4144], durable[4144];
-    unsigned long count = strtoul(argv[1], 0, 10);
+    unsigned long slots = strtoul(argv[1], 0, 10), count = strtoul(argv[2], 0, 10);
     memset(payload, 'x', sizeof payload);
     for (unsigned long i = 0; i < count; i++) {
-        payload[i % sizeof payload] ^= 1;
-        memcpy(present + 48, payload, sizeof payload);
-        __asm__ volatile("" : : "r"(present) : "memory");
-        memcpy(durable, present, sizeof present);
-        __asm__ volatile("" : : "r"(durable) : "memory");
+        for (unsigned long s = 0; s < slots; s++) {
+            payload[s][i % sizeof payload[s]] ^= 1;
+            memcpy(present[s] + 48, payload[s], sizeof payload[s]);
+            __asm__ volatile("" : : "r"(present[s]) : "memory");
+            memcpy(durable[s], present[s], sizeof present[s]);
+            __asm__ volatile("" : : "r"(durable[s]) : "memory");
+        }
     }
     printf("%lu requests\n", count);
     return 0;
@@ -41,11 +45,13 @@ int main(int argc, char **argv) {
 
 def main():
     with tempfile.TemporaryDirectory() as folder:
-        slot = round_of(RUNS, [PROGRAM], FEW, MANY) * 1e9
-        copy = round_of(RUNS, [compiled(COPIES, folder)], FEW, MANY) * 1e9
-        print(f"a request through a slot  {slot:8.0f} ns")
-        print(f"its bytes copied twice    {copy:8.0f} ns")
-        print(f"ratio                     {slot / copy:8.1f}")
+        copies = compiled(COPIES, folder)
+        for slots, words, few, many in SIZES:
+            slot = round_of(RUNS, [PROGRAM, *words], few, many) * 1e9
+            copy = round_of(RUNS, [copies, str(slots)], few, many) * 1e9
+            print(f"a request of {4096 * slots:6} bytes  {slot:8.0f} ns")
+            print(f"its bytes copied twice  {copy:8.0f} ns")
+            print(f"ratio                   {slot / copy:8.1f}")
 
 
 main()

@@ -1,9 +1,10 @@
 //! Workloads to time. `cfs_bench N` stages, opens and closes N requests of 4096 bytes, one after another on
-//! one slot in memory, and prints how many it was. `cfs_bench image BLOCKS QUEUES N` makes an image, and
-//! reads and writes it N times.
+//! one slot in memory, and prints how many it was; `cfs_bench long N` does so with requests of 65,536 bytes in
+//! the slots of a queue. `cfs_bench image BLOCKS QUEUES N` makes an image, and reads and writes it N times.
 #![tactic(auto)]
 
 mod image;
+mod long;
 
 ghost use Rattle.std.specs.Prelude.{◌<◌};
 ghost use Rattle.cfs_slot.specs.Staging.{IsStageable};
@@ -26,6 +27,12 @@ fn main(rt: HostRuntime) -> anyhow::Result<()> {
         let count = number(words.next())?;
         let len = image::read_and_write(alloc, blocks, queues, u64::from(count))?;
         println!(rt; "{count} images of {len} bytes")?;
+        return Ok(());
+    }
+    if word.as_str() == "long" {
+        let count = number(words.next())?;
+        long::admit_all(alloc, u64::from(count))?;
+        println!(rt; "{count} requests")?;
         return Ok(());
     }
     let count = word.parse::<u64>().context("the number of requests")?;

@@ -1,0 +1,5 @@
+pub mod ChainLemmas
+pub mod GateLemmas
+pub mod ListLemmas
+pub mod ResultLemmas
+pub mod ShapeLemmas

@@ -1,0 +1,12 @@
+//! Chains of slots: a request is staged in as many slots as it takes, behind one gate.
+#![tactic(auto)]
+
+mod chain;
+mod lists;
+mod room;
+
+pub use chain::stage_chain;
+pub use room::{are_chain, is_chained, slots_for};
+
+#[cfg(test)]
+mod tests;
