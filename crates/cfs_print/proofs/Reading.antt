@@ -24,7 +24,7 @@ Read = Option (Printed × List ℕ)
 abbrev key : List ℕ → List ℕ → Option (List ℕ)
 key [] text = Some text
 key (k ∷ ks) [] = None
-key (k ∷ ks) (c ∷ text) = elim (k == c) [ | true ↦ key ks text | false ↦ None ]
+key (k ∷ ks) (c ∷ text) = elim (k == c) [ true ↦ key ks text | false ↦ None ]
 
 -- a fixed text, and how to read on behind it
 abbrev Row : Type 0
@@ -33,7 +33,7 @@ Row = List ℕ × (List ℕ → Read)
 -- the first row whose text is there
 abbrev choose : List Row → List ℕ → Read
 choose [] text = None
-choose (row ∷ rows) text = elim (key row.0 text) [ | Some rest ↦ row.1 rest | None ↦ choose rows text ]
+choose (row ∷ rows) text = elim (key row.0 text) [ Some rest ↦ row.1 rest | None ↦ choose rows text ]
 
 -- a number, and the rows behind it
 pub behind_number : (ℕ → List Row) → List ℕ → Read

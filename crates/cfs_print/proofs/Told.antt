@@ -19,10 +19,9 @@ answers_same a b xs ys small_a small_b kind e =
     sym (read-answer a xs small_a) ∙ ap (λ (text : List ℕ). read (is_queue a) text) e ∙ ap (λ (queue : Bool). read queue (onto (answer_pieces b) (10 ∷ ys))) kind ∙ read-answer b ys small_b in
     let same = same_Some _ _ found in
     let rest = lists_same (entries_of a) (entries_of b) (places_of a) (places_of b) xs ys
-        (small_entries a small_a) (small_entries b small_b) (small_places a small_a) (small_places b small_b) (ap (λ (p : Printed × List ℕ). p.1) same) in
-    (
+    (small_entries a small_a) (small_entries b small_b) (small_places a small_a) (small_places b small_b) (ap (λ (p : Printed × List ℕ). p.1) same) in (
       sym (refilled-emptied a) ∙ ap (λ (p : Printed × List ℕ). refilled (entries_of a) (places_of a) p.0) same
-      ∙ ap (λ (es : List Listed). refilled es (places_of a) (emptied b)) rest.0 ∙ ap (λ (ps : List ℕ). refilled (entries_of b) ps (emptied b)) rest.1 ∙ refilled-emptied b,
+          ∙ ap (λ (es : List Listed). refilled es (places_of a) (emptied b)) rest.0 ∙ ap (λ (ps : List ℕ). refilled (entries_of b) ps (emptied b)) rest.1 ∙ refilled-emptied b,
       rest.2,
     )
 
