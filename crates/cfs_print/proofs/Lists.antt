@@ -1,7 +1,6 @@
 -- The entries and the places at the end of a line are read from it.
-use Rattle.std.proofs.Common.{◌≡◌, ℕ, ◌<◌, ◌^◌, Bool, true, false, List, [], ◌∷◌, ◌++◌, length, get_or, refl, sym, ap, ◌∙◌, append_assoc}
-use Rattle.std.specs.Prelude.{codes, ◌==◌, if◌then◌else◌}
-use Rattle.std.specs.Fmt.{decimal}
+use Rattle.std.proofs.Common.{◌≡◌, ℕ, List, [], ◌∷◌, ◌++◌, refl, sym, ap, ◌∙◌, append_assoc}
+use Rattle.std.specs.Prelude.{◌==◌, if◌then◌else◌}
 use Rattle.cfs_print.specs.declared.listed.Letter.{Letter}
 use Rattle.cfs_print.specs.declared.listed.Letter.TheVariants as letters
 use Rattle.cfs_print.specs.declared.listed.Listed.{Listed}

@@ -5,7 +5,7 @@ use Rattle.std.proofs.lemmas.List.{append-nil, take_more}
 use Rattle.std.proofs.Math.Seq.{take-length}
 use Rattle.cfs_print.specs.declared.listed.Listed.{Listed}
 use Rattle.cfs_print.specs.declared.printed.Printed.{Printed}
-use Rattle.cfs_print.specs.Text.{Piece, Key, Number, pieces_text, letter_text, entry_pieces, more_places, place_pieces, answer_text}
+use Rattle.cfs_print.specs.Text.{Key, Number, pieces_text, letter_text, entry_pieces, more_places, place_pieces, answer_text}
 
 abbrev pub entries_text : List Listed → List ℕ
 entries_text entries = pieces_text (entry_pieces entries)

@@ -1,13 +1,12 @@
 -- The text of a line tells its number and its answer, and the text of an output tells its lines.
-use Rattle.std.proofs.Common.{◌≡◌, ℕ, ◌<◌, ◌^◌, Bool, List, [], ◌∷◌, ◌++◌, map, Option, Some, refl, sym, ap, ◌∙◌, append_assoc}
-use Rattle.std.specs.Prelude.{codes}
+use Rattle.std.proofs.Common.{◌≡◌, ℕ, Bool, List, [], ◌∷◌, ◌++◌, Some, refl, sym, ap, ◌∙◌, append_assoc}
 use Rattle.std.specs.Fmt.{decimal}
 use Rattle.std.proofs.lemmas.Option.{same_Some}
 use Rattle.cfs_print.specs.declared.listed.Listed.{Listed}
 use Rattle.cfs_print.specs.declared.printed.Printed.{Printed}
 use Rattle.cfs_print.specs.declared.out_line.OutLine.{OutLine}
-use Rattle.cfs_print.specs.Text.{AreSmall, IsLine, AreLines, LinesAreTold, OutputsAreTold, answer_pieces, answer_text, is_queue, kinds, line_text, lines_text, pieces_text}
-use Rattle.cfs_print.proofs.Numbers.{Stops, numbers_same}
+use Rattle.cfs_print.specs.Text.{AreSmall, IsLine, LinesAreTold, OutputsAreTold, answer_pieces, answer_text, is_queue, kinds, line_text, lines_text}
+use Rattle.cfs_print.proofs.Numbers.{numbers_same}
 use Rattle.cfs_print.proofs.Lists.{onto, pieces_onto, tails_same, lists_same}
 use Rattle.cfs_print.proofs.Reading.{read, read-answer, emptied, entries_of, places_of, refilled, refilled-emptied, small_entries, small_places, left}
 

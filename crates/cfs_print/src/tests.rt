@@ -152,7 +152,10 @@ fn bytes_are_lower_case_digits(rt: HostRuntime) -> Result<(), Fail> {
         bytes: Bytes::from_slice(rt.alloc(), b"\x00\xab\xff")?,
     };
     let line = text_of(rt.alloc(), 65536, answer)?;
-    assert_eq!(rt; line.as_slice(), b"65536 ok ino=2 place=3 n=3 h:00abff\n");
+    assert_eq!(rt;
+        line.as_slice(),
+        "65536 ok ino=2 place=3 n=3 h:00abff\n".as_bytes()
+    );
     Ok(())
 }
 
@@ -172,7 +175,7 @@ fn entries_have_their_letters(rt: HostRuntime) -> Result<(), Fail> {
         entries: Entries::new(entries),
     };
     let line = text_of(rt.alloc(), 8, answer)?;
-    assert_eq!(rt; line.as_slice(), b"8 ok 1w 2o 10n 11d\n");
+    assert_eq!(rt; line.as_slice(), "8 ok 1w 2o 10n 11d\n".as_bytes());
     Ok(())
 }
 
@@ -188,6 +191,6 @@ fn places_have_commas_between(rt: HostRuntime) -> Result<(), Fail> {
         places: Places::new(places),
     };
     let line = text_of(rt.alloc(), 7, answer)?;
-    assert_eq!(rt; line.as_slice(), b"7 EAGAIN places=3,0,12\n");
+    assert_eq!(rt; line.as_slice(), "7 EAGAIN places=3,0,12\n".as_bytes());
     Ok(())
 }

@@ -1,4 +1,4 @@
-use Rattle.std.proofs.Common.{◌≡◌, ◌++◌, List, [], ◌∷◌, length, refl, sym}
+use Rattle.std.proofs.Common.{refl}
 use Rattle.std.specs.Prelude.{codes}
 use Rattle.cfs_print.proofs.Parts.{added, one_number, two_numbers, three_numbers}
 use Rattle.cfs_print.proofs.print.print_answer.Goals as goal

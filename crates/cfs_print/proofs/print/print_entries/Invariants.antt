@@ -1,5 +1,4 @@
 use Rattle.std.proofs.Common.{◌≡◌, ◌++◌, take}
-use Rattle.std.specs.Prelude.{codes}
 use Rattle.std.specs.String.{string_bytes}
 use Rattle.cfs_print.specs.Text.{entry_pieces, pieces_text}
 use Rattle.cfs_print.proofs.print.print_entries.Given as goal
