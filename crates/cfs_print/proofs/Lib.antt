@@ -1,0 +1,5 @@
+mod Numbers
+mod Reading
+mod Lists
+mod Parts
+pub mod Told
