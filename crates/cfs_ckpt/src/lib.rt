@@ -1,0 +1,15 @@
+//! The checkpoint of the tree of names: two copies of its table, and a selector that tells which one
+//! counts and after which change of the journal.
+//!
+//! A store writes the copy that is not selected, persists it, and only then sets the selector. So in
+//! each image the selected copy stands whole: that of before, or the new one.
+#![tactic(auto)]
+
+mod checkpoint;
+mod table;
+
+pub use checkpoint::Checkpoint;
+pub use table::TABLE_WORDS;
+
+#[cfg(test)]
+mod tests;
