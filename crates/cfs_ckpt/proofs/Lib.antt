@@ -4,3 +4,5 @@ pub mod LoadLemmas
 pub mod SelectLemmas
 pub mod StoreLemmas
 pub mod CopyLemmas
+pub mod Histories
+pub mod Fresh

@@ -6,3 +6,4 @@ pub mod Selects
 pub mod Stores
 pub mod Distinct
 pub mod Checkpoints
+pub mod History

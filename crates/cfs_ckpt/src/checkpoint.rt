@@ -1,11 +1,12 @@
 //! The checkpoint and its calls.
-ghost use Rattle.std.specs.Prelude.{◌≡◌, ◌⊎◌, ◌∷◌, ◌+◌, ◌-◌, ◌*◌, ◌%◌, ◌<◌, ◌^◌, suc, true, false, map, IsTrue, OnOk, OnErr};
+ghost use Rattle.std.specs.Prelude.{◌≡◌, ◌∷◌, ◌+◌, ◌-◌, ◌*◌, ◌%◌, ◌<◌, ◌^◌, suc, true, false, map, IsTrue, OnOk, OnErr};
 ghost use Rattle.cfs_dir.specs.Tree.{IsTree};
 ghost use Rattle.cfs_dir.specs.Words.{table_in, table_words};
 ghost use Rattle.cfs_pmem.specs.Images.{words_of, IsImage, IsSure};
 ghost use Rattle.cfs_pmem.specs.Objects.{seen_at, MomentsOf};
 ghost use Rattle.cfs_ckpt.specs.Causes.{HasOneCause};
 ghost use Rattle.cfs_ckpt.specs.Distinct.{distinct_prop};
+ghost use Rattle.cfs_ckpt.specs.History.{StoreMoments};
 ghost use Rattle.cfs_ckpt.specs.Loads.{loaded, CanLoad, LoadsOnly};
 ghost use Rattle.cfs_ckpt.specs.Placed.{DoesPlaced};
 ghost use Rattle.cfs_ckpt.specs.Selects.{AreFresh, Selects};
@@ -93,9 +94,7 @@ impl<R: Region + Drop> Checkpoint<R> {
         ensures cause { HasOneCause
             (faults_of R.faults self.old) (faults_of R.faults self.new) result }
         // At each moment an image loads what one could load before the call, or this.
-        ensures moments { MomentsOf IsImage
-            (λ images. CanLoad (seens_of R.seen self.old) (loaded images)
-                ⊎ (loaded images ≡ record { tree = tree.now; through = through }))
+        ensures moments { StoreMoments record { tree = tree.now; through = through }
             (P.asked power.old) (seens_of R.seen self.old)
             (P.asked power.new) (seens_of R.seen self.new) }
     {
@@ -140,7 +139,7 @@ impl<R: Region + Drop> Checkpoint<R> {
         requires { unsure_of self.old ≡ false }
         ensures words { OnOk result
             (words_of (seen_at (seens_of R.seen self.new) (suc (free_copy (word_of self.old))))
-                ≡ table_words tree.now) }
+            ≡ table_words tree.now) }
         ensures sure { OnOk result
             (IsSure (seen_at (seens_of R.seen self.new) (suc (free_copy (word_of self.old))))) }
         ensures whole { IsTree tree.now.nodes tree.now.next }
@@ -167,8 +166,7 @@ impl<R: Region + Drop> Checkpoint<R> {
     fn select<P: Power>(&mut self, power: &mut P, through: u64) -> Result<(), DeviceFault>
         requires low { through < 2 ^ 63 }
         requires settled { unsure_of self.old ≡ false }
-        requires sure {
-            IsSure (seen_at (seens_of R.seen self.old) (suc (free_copy (word_of self.old)))) }
+        requires sure { IsSure (seen_at (seens_of R.seen self.old) (suc (free_copy (word_of self.old)))) }
         ensures settled { OnOk result (unsure_of self.new ≡ false) }
         ensures doubtful { OnErr result (unsure_of self.new ≡ true) }
         ensures does { IsTrue R.obeys_power → DoesPlaced
@@ -176,17 +174,17 @@ impl<R: Region + Drop> Checkpoint<R> {
             (P.asked power.old) (seens_of R.seen self.old)
             (P.asked power.new) (seens_of R.seen self.new) }
         ensures selected { OnOk result (LoadsOnly (seens_of R.seen self.new) record {
-            tree = table_in (words_of
-                (seen_at (seens_of R.seen self.old) (suc (free_copy (word_of self.old)))));
-            through = through }) }
+          tree = table_in (words_of
+              (seen_at (seens_of R.seen self.old) (suc (free_copy (word_of self.old)))));
+          through = through;
+        }) }
         ensures cause { HasOneCause
             (faults_of R.faults self.old) (faults_of R.faults self.new) result }
-        ensures moments { MomentsOf IsImage
-            (λ images. CanLoad (seens_of R.seen self.old) (loaded images)
-                ⊎ (loaded images ≡ record {
-                    tree = table_in (words_of
-                        (seen_at (seens_of R.seen self.old) (suc (free_copy (word_of self.old)))));
-                    through = through }))
+        ensures moments { StoreMoments record {
+          tree = table_in (words_of
+              (seen_at (seens_of R.seen self.old) (suc (free_copy (word_of self.old)))));
+          through = through;
+        }
             (P.asked power.old) (seens_of R.seen self.old)
             (P.asked power.new) (seens_of R.seen self.new) }
     {

@@ -6,9 +6,11 @@
 #![tactic(auto)]
 
 mod checkpoint;
+mod laws;
 mod table;
 
 pub use checkpoint::Checkpoint;
+pub use laws::{crashes_in_a_store, crashes_load_stores};
 pub use table::TABLE_WORDS;
 
 #[cfg(test)]

@@ -113,7 +113,10 @@ fn a_selector_in_doubt_is_persisted_first(rt: HostRuntime) -> Result<(), Fail> {
         let stored = store_with_stop(&mut checkpoint, &mut meter, n, third, 13);
         assert_eq!(rt; stored.is_ok(), n > 3077, "fault {fault}, stop {n}");
         let words = table(rt.alloc(), tree)?;
-        assert!(rt; loads(checkpoint, k, &words, through), "fault {fault}, stop {n}, pick {k}");
+        assert!(rt;
+            loads(checkpoint, k, &words, through),
+            "fault {fault}, stop {n}, pick {k}"
+        );
     }
     Ok(())
 }
