@@ -25,10 +25,8 @@ pub fresh : (first second : List ℕ) → length first ≡ 3073 → length secon
 fresh first second a b = record {
   size = refl;
   distinct = (
-    (apart 0 1 (λ same. omega (arith, same)), apart 0 2 (λ same. omega (arith, same)), tt),
-    (apart 1 2 (λ same. omega (arith, same)), tt),
-    tt,
-    tt,
+    (apart 0 1 (λ same. omega (arith, same)), (apart 0 2 (λ same. omega (arith, same)), tt)),
+    ((apart 1 2 (λ same. omega (arith, same)), tt), (tt, tt)),
   );
   selector = sure_began 0 (0 ∷ []);
   tables = sizes first second a b;

@@ -1,7 +1,7 @@
 -- Three calls one after another: the selector is settled, a copy is written, and it is selected.
 use Rattle.std.proofs.Common.{ℕ, zero, suc, ◌+◌, ◌<◌, ◌≡◌, ◌⊎◌, ◌∙◌, ◌==◌, Bool, true, false, Result, Ok, Err, List, [], ◌∷◌, ◌++◌, length, drop, inl, inr, refl, sym, ap, subst, arith}
 use Rattle.std.proofs.lemmas.Bool.{ne_eqb}
-use Rattle.std.proofs.lemmas.List.{drop-append-le, length-append, length-drop}
+use Rattle.std.proofs.lemmas.List.{drop-append-le, length-append, length-drop, length-map}
 use Rattle.std.proofs.Math.Seq.{drop-append-add}
 use Rattle.cfs_dir.specs.Namespace.{Namespace}
 use Rattle.cfs_dir.specs.Tree.{IsTree}
@@ -14,11 +14,13 @@ use Rattle.cfs_pmem.specs.Operations.{AllDone, FrontDone, LastFails, after_all, 
 use Rattle.cfs_pmem.specs.WordOps.{WordOp, persist, set_ops}
 use Rattle.cfs_pmem.proofs.AllMomentLemmas.{all_after, all_at_end, all_weaker}
 use Rattle.cfs_pmem.proofs.CallLemmas.{fails_behind, refused_behind}
+use Rattle.cfs_pmem.proofs.WordLemmas.{length-puts}
 use Rattle.cfs_ckpt.specs.Loads.{CanLoad, Loaded, loaded}
 use Rattle.cfs_ckpt.specs.Placed.{PlacedFails, PlacedOp, at_place, numbers_of, placed_asks, placed_done}
-use Rattle.cfs_ckpt.specs.Stores.{Stores, StopsAt, free_copy, is_at_selector, put_ops, select_ops, settle_ops, store_ops, word_for}
+use Rattle.cfs_ckpt.specs.Stores.{Stores, StopsAt, StoresTakeSteps, free_copy, is_at_selector, put_ops, select_ops, settle_ops, store_ops, word_for}
 use Rattle.cfs_ckpt.specs.Tables.{table_ops}
 use Rattle.cfs_ckpt.proofs.PlacedLemmas.{numbers_after, placed_after}
+use Rattle.cfs_ckpt.proofs.TableLemmas.{length-table}
 
 -- ---- a call that stopped
 
@@ -161,3 +163,19 @@ all_stored {asked_old} {asked_mid} {asked_put} {asked_new} {old} {mid} {put} {ne
 -- what a copy holds, where its word is told by the call before
 pub copy_words : {words : List ℕ} (seens : List (Seen WordStep)) (later again : ℕ) → later ≡ again → words_of (seen_at seens (suc (free_copy again))) ≡ words → words_of (seen_at seens (suc (free_copy later))) ≡ words
 copy_words seens later again same h = ap (λ (w : ℕ). words_of (seen_at seens (suc (free_copy w)))) same ∙ h
+
+-- ---- how many steps a store takes
+
+pub stores_take_steps : StoresTakeSteps
+stores_take_steps word tree through = (steps false, steps true)
+  where
+    steps : (unsure : Bool) → length (store_ops unsure word tree through) ≡ 3076 + length (settle_ops unsure)
+    steps unsure =
+        let copy : ℕ = free_copy word in
+        let words : List ℕ = table_words tree in
+        let more : List PlacedOp = put_ops copy tree ++ settle_ops unsure in
+        let whole : length (select_ops (word_for through copy) ++ more) ≡ 2 + length more = length-append (select_ops (word_for through copy)) more in
+        let part : length more ≡ length (put_ops copy tree) + length (settle_ops unsure) = length-append (put_ops copy tree) (settle_ops unsure) in
+        let copied : length (put_ops copy tree) ≡ length (table_ops words) = length-map {B = PlacedOp} (table_ops words) (λ (op : WordOp). record { place = suc copy; op = op }) in
+        let one : length (table_ops words) ≡ suc (length words) = ap (λ (n : ℕ). suc n) (length-puts 0 words (length words)) in
+        omega (arith, whole, part, copied, one, length-table tree)

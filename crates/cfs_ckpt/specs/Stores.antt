@@ -1,5 +1,5 @@
 -- The steps of a store, in order, and what a failure leaves.
-use Rattle.std.specs.Prelude.{ℕ, suc, ◌≡◌, ◌+◌, ◌-◌, ◌*◌, ◌%◌, ◌==◌, Bool, true, false, List, [], ◌∷◌, ◌++◌, drop, Result, OnOk, OnErr}
+use Rattle.std.specs.Prelude.{ℕ, suc, ◌≡◌, ◌+◌, ◌-◌, ◌*◌, ◌%◌, ◌==◌, Bool, true, false, List, [], ◌∷◌, ◌++◌, length, drop, Result, OnOk, OnErr}
 use Rattle.cfs_dir.specs.Namespace.{Namespace}
 use Rattle.cfs_dir.specs.Words.{table_words}
 use Rattle.cfs_pmem.specs.declared.trace.Asked.{Asked}
@@ -57,3 +57,9 @@ pub record Stores {T E : Type 0} (ops : List PlacedOp) (unsure : Bool) (result :
   pub ok : OnOk result
       (AllDone (placed_asks (numbers_of old)) placed_done ops asked_old old asked_new new)
   pub err : OnErr result (StopsAt ops unsure asked_old old asked_new new)
+
+-- How many steps these are: one more where the selector is in doubt.
+abbrev pub StoresTakeSteps : Type 0
+StoresTakeSteps = (word : ℕ) (tree : Namespace) (through : ℕ) →
+    (length (store_ops false word tree through) ≡ 3076)
+    × (length (store_ops true word tree through) ≡ 3077)

@@ -10,7 +10,7 @@ mod laws;
 mod table;
 
 pub use checkpoint::Checkpoint;
-pub use laws::{crashes_in_a_store, crashes_load_stores};
+pub use laws::{crashes_in_a_store, crashes_load_stores, stores_take_steps};
 pub use table::TABLE_WORDS;
 
 #[cfg(test)]

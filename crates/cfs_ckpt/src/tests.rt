@@ -86,32 +86,34 @@ fn a_stop_leaves_one_of_two_trees(rt: HostRuntime) -> Result<(), Fail> {
 // failed, with the new one where its persist did. The copy that it selects is left.
 #[test]
 fn a_selector_in_doubt_is_persisted_first(rt: HostRuntime) -> Result<(), Fail> {
-    let trees = [
-        Tree::with_root(rt.alloc(), 0o777, 1, 2)?,
-        Tree::with_root(rt.alloc(), 0o700, 3, 4)?,
-        Tree::with_root(rt.alloc(), 0o755, 5, 6)?,
-    ];
-    let [first, second, third] = &trees;
-    for (fault, n, k, tree, through) in [
-        (3075, 1, 0, first, 5),
-        (3075, 1, 1, first, 5),
-        (3075, 3077, 0, first, 5),
-        (3075, 3077, 1, third, 13),
-        (3076, 1, 0, first, 5),
-        (3076, 1, 1, second, 9),
-        (3076, 2, 0, second, 9),
-        (3076, 3076, 1, second, 9),
-        (3076, 3077, 0, second, 9),
-        (3076, 3077, 1, third, 13),
-        (3076, 3078, 0, third, 13),
+    let first = Tree::with_root(rt.alloc(), 0o777, 1, 2)?;
+    let second = Tree::with_root(rt.alloc(), 0o700, 3, 4)?;
+    let third = Tree::with_root(rt.alloc(), 0o755, 5, 6)?;
+    for (fault, n, k, through) in [
+        (3075, 1, 0, 5),
+        (3075, 1, 1, 5),
+        (3075, 3077, 0, 5),
+        (3075, 3077, 1, 13),
+        (3076, 1, 0, 5),
+        (3076, 1, 1, 9),
+        (3076, 2, 0, 9),
+        (3076, 3076, 1, 9),
+        (3076, 3077, 0, 9),
+        (3076, 3077, 1, 13),
+        (3076, 3078, 0, 13),
     ] {
         let mut meter = Meter::calm(rt.alloc());
         let mut checkpoint = blank(rt.alloc())?;
-        assert_eq!(rt; checkpoint.store(&mut meter, first, 5), Ok(()));
-        let refused = store_with_stop(&mut checkpoint, &mut meter, fault, second, 9);
+        assert_eq!(rt; checkpoint.store(&mut meter, &first, 5), Ok(()));
+        let refused = store_with_stop(&mut checkpoint, &mut meter, fault, &second, 9);
         assert_eq!(rt; refused, Err(DeviceFault));
-        let stored = store_with_stop(&mut checkpoint, &mut meter, n, third, 13);
+        let stored = store_with_stop(&mut checkpoint, &mut meter, n, &third, 13);
         assert_eq!(rt; stored.is_ok(), n > 3077, "fault {fault}, stop {n}");
+        let tree = match through {
+            5 => &first,
+            9 => &second,
+            _ => &third,
+        };
         let words = table(rt.alloc(), tree)?;
         assert!(rt;
             loads(checkpoint, k, &words, through),
