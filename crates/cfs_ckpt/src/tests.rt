@@ -8,10 +8,11 @@ use std::test::Fail;
 
 /// A checkpoint on zeros.
 fn blank(alloc: Global) -> Result<Checkpoint<MemRegion>, AllocError> {
-    let selector = MemRegion::new(alloc, 0, vec![in alloc; 0; 1]?)?;
     let first = MemRegion::new(alloc, 1, vec![in alloc; 0; TABLE_WORDS as usize]?)?;
     let second = MemRegion::new(alloc, 2, vec![in alloc; 0; TABLE_WORDS as usize]?)?;
-    Ok(Checkpoint::blank(selector, vec![in alloc; first, second]?))
+    let tables = vec![in alloc; first, second]?;
+    let selector = MemRegion::new(alloc, 0, vec![in alloc; 0]?)?;
+    Ok(Checkpoint::blank(selector, tables))
 }
 
 /// A store of `tree` that stops at its `n`th writing step.
