@@ -1,0 +1,5 @@
+pub mod Counting
+pub mod Files
+pub mod Fitting
+pub mod Numbering
+pub mod Rounds
