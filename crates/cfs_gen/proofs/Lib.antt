@@ -1,4 +1,3 @@
-pub mod Counting
 pub mod Files
 pub mod Fitting
 pub mod Numbering
