@@ -1,10 +1,13 @@
 //! Workloads to time. `cfs_bench N` stages, opens and closes N requests of 4096 bytes, one after another on
 //! one slot in memory, and prints how many it was; `cfs_bench long N` does so with requests of 65,536 bytes in
 //! the slots of a queue. `cfs_bench image BLOCKS QUEUES N` makes an image, and reads and writes it N times.
+//! `cfs_bench read SCRIPT N` reads a script N times, and `cfs_bench print SCRIPT N` reads it once and prints it
+//! N times.
 #![tactic(auto)]
 
 mod image;
 mod long;
+mod script;
 
 ghost use Rattle.std.specs.Prelude.{◌<◌};
 ghost use Rattle.cfs_slot.specs.Staging.{IsStageable};
@@ -15,7 +18,7 @@ use cfs_image::{FIRST_SLOT, region_words};
 use cfs_pmem::{DeviceFault, MemRegion, Meter};
 use cfs_slot::{Slot, is_stageable};
 use std::alloc::{AllocError, Global};
-use std::env;
+use std::{env, fs};
 
 fn main(rt: HostRuntime) -> anyhow::Result<()> {
     let alloc = rt.alloc();
@@ -33,6 +36,19 @@ fn main(rt: HostRuntime) -> anyhow::Result<()> {
         let count = number(words.next())?;
         long::admit_all(alloc, u64::from(count))?;
         println!(rt; "{count} requests")?;
+        return Ok(());
+    }
+    if word.as_str() == "read" || word.as_str() == "print" {
+        let path = words.next().context("a script is missing")?;
+        let count = u64::from(number(words.next())?);
+        let bytes = fs::read(&rt, path.as_str())?;
+        if word.as_str() == "read" {
+            let lines = script::read(alloc, bytes.as_slice(), count)?;
+            println!(rt; "{count} times {lines} lines")?;
+        } else {
+            let len = script::print(alloc, bytes.as_slice(), count)?;
+            println!(rt; "{count} times {len} bytes")?;
+        }
         return Ok(());
     }
     let count = word.parse::<u64>().context("the number of requests")?;

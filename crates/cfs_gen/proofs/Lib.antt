@@ -1,0 +1,4 @@
+pub mod Files
+pub mod Fitting
+pub mod Numbering
+pub mod Rounds

@@ -1,0 +1,7 @@
+use Rattle.std.proofs.Common.{◌≡◌, ◌++◌, take}
+use Rattle.std.specs.List.{flat_map}
+use Rattle.cfs_gen.specs.Workload.{introduced}
+use Rattle.cfs_gen.proofs.session.introduce_callers.Given as goal
+
+abbrev pub invariant-callers : goal.invariant-callers
+invariant-callers l = l.draft ≡ l.initial.draft ++ flat_map introduced (take l.caller-index l.caller-items)
