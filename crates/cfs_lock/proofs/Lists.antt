@@ -1,6 +1,7 @@
 -- Sums over a list in which one element changes, and facts about each element.
-use Rattle.std.proofs.Common.{◌≡◌, ◌≢◌, ℕ, zero, suc, ◌+◌, ◌≤◌, List, [], ◌∷◌, ◌++◌, sum_by, set, sym, ap, subst, ⊎_elim, arith}
+use Rattle.std.proofs.Common.{◌≡◌, ◌≢◌, ℕ, zero, suc, ◌+◌, ◌≤◌, List, [], ◌∷◌, ◌++◌, sum_by, set, sym, ap, ◌∙◌, subst, ⊎_elim, arith}
 use Rattle.std.proofs.lemmas.List.Sums.{sum_by-cons, sum_by_push}
+use Rattle.atomic_table.specs.Table.{rest}
 use Rattle.atomic_table.proofs.Lists.{at_set, at_snoc, set_else}
 use mathlib.Core.Option.{some, some-injective, some-ne-none}
 use lib.ListN.{get_elem?}
@@ -40,3 +41,7 @@ module _ {A : Type 0} (P : A → Type 0) where
 
   pub each_snoc : (l : List A) (w : A) → P w → ((j : ℕ) (v : A) → get_elem? l j ≡ some v → P v) → (j : ℕ) (v : A) → get_elem? (l ++ w ∷ []) j ≡ some v → P v
   each_snoc l w p h j v e = ⊎_elim (λ t. h j v t) (λ t. subst P t p) (at_snoc l w v j e)
+
+-- a list is its first element and the rest
+pub split_front : {A : Type 0} (l m : List (ℕ × A)) (x : ℕ × A) → l ≡ x ∷ m → l ≡ x ∷ rest l
+split_front l m x e = e ∙ ap (λ r. x ∷ r) (sym (ap rest e))

@@ -1,9 +1,9 @@
 -- Each step keeps the rule.
-use Rattle.std.proofs.Common.{◌≡◌, ◌≢◌, ℕ, zero, suc, ◌+◌, ◌-◌, ◌%◌, ◌^◌, ◌==◌, ◌<◌, ◌≤◌, All, List, [], ◌∷◌, ◌++◌, Option, Some, cond, eqb, length, set, slice_index, slice_set, sum_by, refl, sym, ap, ◌∙◌, subst, arith}
+use Rattle.std.proofs.Common.{◌≡◌, ◌≢◌, ℕ, zero, suc, ◌+◌, ◌-◌, ◌%◌, ◌^◌, ◌==◌, ◌<◌, ◌≤◌, All, List, [], ◌∷◌, ◌++◌, Option, Some, cond, eqb, length, set, slice_index, slice_set, sum_by, unwrap_or, refl, sym, ap, ap₂, ◌∙◌, subst, arith}
 use Rattle.std.proofs.lemmas.Bool.Decides.{nat_tests}
 use Rattle.std.proofs.lemmas.List.{append-nil}
 use Rattle.std.proofs.lemmas.List.Elements.{All-append, All-cons, All-nil}
-use Rattle.atomic_table.specs.Table.{Act, Allows, State, keeps, takes, gives}
+use Rattle.atomic_table.specs.Table.{Act, Allows, Me, State, keeps, takes, gives}
 use Rattle.atomic_table.proofs.Lists.{one_turn}
 use mathlib.Core.Option.{some, none}
 use mathlib.Core.Logic.{dite}
@@ -20,6 +20,11 @@ use Rattle.cfs_lock.proofs.Logs.{books_rewritten, books_stay, first_kept, front_
 
 own_ticket : (t : ℕ) → ◌≡◌ {A = ℕ} (cond (eqb t t) 1 0) 1
 own_ticket t = grind (arith, nat_tests)
+
+-- the value in the slot that was taken last, or another one
+abbrev lying : {X : Type 0} → X → List (ℕ × Option X) → X
+lying d [] = d
+lying d (x ∷ xs) = unwrap_or x.1 d
 
 module _ {X : Type 0} where
   -- a change of one stage leaves the numbers
@@ -51,6 +56,10 @@ module _ {X : Type 0} where
             let m = moved (has_ticket t) views seat v w at in let z = none_before t in
             let old : drawn ≤ t → sum_by (has_ticket t) views ≡ 0 = k.coming t in grind (arith, nat_tests);
       }
+
+-- what is found does not depend on the stage
+pub finds_any : {X : Type 0} (log : X → Log) (part : X → ℕ → Part) (v : View X) (stage : Stage X) (x : X) → Finds log part (at_stage stage v) x → Finds log part v x
+finds_any log part v stage x f = record { fronts = f.fronts; books = f.books; others = f.others }
 
 module _ {X : Type 0} (log : X → Log) (part : X → ℕ → Part) (base : Log) (bound : ℕ) where
   -- a view at another stage stands as before
@@ -288,8 +297,9 @@ module _ {X : Type 0} (log : X → Log) (part : X → ℕ → Part) (base : Log)
         leads = λ nz. k.leads (λ z. nz (kept_same ∙ z));
       }
 
-  pub counts : (slots seat : ℕ) (v : View X) (ticket count : ℕ) (x y : X) → v.stage ≡ Holds ticket x → Grows log part (first_number v.books) x y → count ≡ length (log y)
-      → Allows (Kept log part base bound) slots seat (v, (0, Some y) ∷ []) 2 (λ _. count) (λ n m. m ≡ (at_stage (Done ticket) (left_with log part y v), []))
+  counts : (slots seat : ℕ) (v : View X) (ticket count : ℕ) (x y : X) → v.stage ≡ Holds ticket x → Grows log part (first_number v.books) x y → count ≡ length (log y)
+      → Allows (Kept log part base bound) slots seat (v, (0, Some y) ∷ []) 2 (λ _. count) (λ n m. (t : ℕ) (before after : X) → v.stage ≡ Holds t before → ◌≡◌ {A = List (ℕ × Option X)} ((0, Some y) ∷ []) ((0, Some after) ∷ [])
+          → m ≡ (at_stage (Done t) (left_with log part after v), []))
   counts slots seat v ticket count x y holds g is s k sized at fits =
       let w : View X = at_stage (Done ticket) (left_with log part y v) in
       let number : ℕ = first_number v.books in
@@ -339,5 +349,15 @@ module _ {X : Type 0} (log : X → Log) (part : X → ℕ → Part) (base : Log)
                   let idle : has_ticket k.served u ≡ 0 = omega (arith, two (has_ticket k.served) s.views seat j v u n at there, mine, total) in
                   outgrown k.served k.next number k.value y u g' other (waits_on k.served k.served k.value y u.stage us.stage idle) us);
         },
-        refl,
+        (λ t before after e e'.
+            let same : ticket ≡ t = cc in let same' : y ≡ after = ap (lying y) e' in
+            ap₂ (λ (a : ℕ) (b : X). (at_stage (Done a) (left_with log part b v), [])) same same'),
       )
+
+  pub counts_out : (slots seat : ℕ) (m : Me (Option X) (View X)) (ticket count : ℕ) (x y : X) → m.0.stage ≡ Holds ticket x → m.1 ≡ (0, Some y) ∷ [] → Grows log part (first_number m.0.books) x y → count ≡ length (log y)
+      → Allows (Kept log part base bound) slots seat m 2 (λ _. count) (λ n m'. (t : ℕ) (before after : X) → m.0.stage ≡ Holds t before → m.1 ≡ (0, Some after) ∷ [] → m' ≡ (at_stage (Done t) (left_with log part after m.0), []))
+  counts_out slots seat m ticket count x y holds hand g is =
+      subst
+          (λ (c : List (ℕ × Option X)). Allows (Kept log part base bound) slots seat (m.0, c) 2 (λ _. count)
+              (λ n m'. (t : ℕ) (before after : X) → m.0.stage ≡ Holds t before → c ≡ (0, Some after) ∷ [] → m' ≡ (at_stage (Done t) (left_with log part after m.0), [])))
+          (sym hand) (counts slots seat m.0 ticket count x y holds g is)
