@@ -170,7 +170,7 @@ module _ {X : Type 0} (log : X → Log) (part : X → ℕ → Part) (base : Log)
       omega (arith, moved holding s.views seat v w at, moved (has_ticket k.served) s.views seat v w at, ap holding_at waits, mine, total, less)
 
   -- what the value is to a view that waits
-  found_there : (s : State (Option X) (View X)) → (k : Kept log part base bound s) → (seat : ℕ) (v : View X) → get_elem? s.views seat ≡ some v → 0 < places v → Finds log part v k.value
+  pub found_there : (s : State (Option X) (View X)) → (k : Kept log part base bound s) → (seat : ℕ) (v : View X) → get_elem? s.views seat ≡ some v → 0 < places v → Finds log part v k.value
   found_there s k seat v at booked =
       let st = k.each seat v at in let from = st.origin booked in record {
         fronts = st.fronts;
