@@ -1,7 +1,7 @@
 -- A lock, its passes and what is found behind it, in the words of contracts.
-use Rattle.std.specs.Prelude.{◌≡◌, ◌≢◌, ℕ, ◌+◌, ◌<◌, List, [], Option, length}
+use Rattle.std.specs.Prelude.{◌≡◌, ℕ, ◌+◌, ◌<◌, false, [], length}
 use Rattle.atomic_table.specs.Seated.{TableId}
-use Rattle.cfs_lock.specs.declared.held.Held.{Held}
+use Rattle.cfs_lock.specs.declared.lock.TreeLock.{TreeLock}
 use Rattle.cfs_lock.specs.declared.pass.Pass.{Pass}
 use Rattle.cfs_lock.specs.declared.view.Stage.TheVariants.{Holds}
 use Rattle.cfs_lock.specs.declared.view.View.{View}
@@ -13,6 +13,9 @@ module _ {X : Type 0} where
   abbrev pub lock_of : Pass X → TableId
   lock_of pass = pass.seat.table_id
 
+  abbrev pub IsPassOf : TreeLock X → Pass X → Type 0
+  IsPassOf lock pass = lock_of pass ≡ lock.table.shared.table_id
+
   -- what a pass knows
   abbrev pub knows : Pass X → View X
   knows pass = pass.seat.me.0
@@ -20,6 +23,10 @@ module _ {X : Type 0} where
   -- the pass is of the same lock, with the same number, and may give as many numbers
   abbrev pub IsSame : Pass X → Pass X → Type 0
   IsSame before after = (lock_of after ≡ lock_of before) × (after.number ≡ before.number) × (after.left ≡ before.left)
+
+  -- the pass is between two stays inside
+  abbrev pub IsOutside : Pass X → Type 0
+  IsOutside pass = pass.inside ≡ false
 
   -- the pass is inside, where it found this value
   abbrev pub IsInside : Pass X → X → Type 0

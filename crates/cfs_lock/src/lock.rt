@@ -1,4 +1,4 @@
-ghost use Rattle.std.specs.Prelude.{◌≡◌, ◌<◌, ℕ, true, false, [], ◌∷◌, None, Some, IfSome, IfNone, length};
+ghost use Rattle.std.specs.Prelude.{◌≡◌, ◌<◌, ℕ, [], ◌∷◌, None, IfSome, IfNone, length};
 ghost use Rattle.cfs_lock.specs.Log.{Grows};
 ghost use Rattle.cfs_lock.specs.Rule.{word_of};
 ghost use Rattle.cfs_lock.specs.Views.{Finds, at_stage, first_number, left_with};
@@ -13,6 +13,8 @@ use atomic_table::{Seat, Table};
 use std::alloc::Global;
 use std::sync::Wait;
 use std::thread;
+
+mod passes;
 
 const TICKET: usize = 0;
 
@@ -31,7 +33,7 @@ pub struct TreeLock<X: Recorded> {
 }
 
 impl<X: Recorded> TreeLock<X> {
-    ghost use Rattle.cfs_lock.specs.Passes.{IsInside, IsSame, knows, lock_of};
+    ghost use Rattle.cfs_lock.specs.Passes.{IsInside, IsOutside, IsPassOf, IsSame, knows};
 
     /// Draws the next ticket.
     fn draw(&self, seat: &mut Seat<Option<X>, View<X>>) -> u64
@@ -97,8 +99,8 @@ impl<X: Recorded> TreeLock<X> {
 
     /// Waits until it is this pass's turn, by trying again, and hands out the value.
     pub fn enter<R: Wait>(&self, rt: &R, pass: &mut Pass<X>) -> Held<X>
-        requires own { lock_of pass.old ≡ self.now.table.shared.table_id }
-        requires outside { pass.old.inside ≡ false }
+        requires own { IsPassOf self.now pass.old }
+        requires outside { IsOutside pass.old }
         ensures same { IsSame pass.old pass.new }
         ensures found { Finds X.log X.part (knows pass.old) result.value }
         ensures inside { (ticket : ℕ) × (knows pass.new ≡ at_stage (Holds ticket result.value) (knows pass.old)) }
@@ -110,10 +112,10 @@ impl<X: Recorded> TreeLock<X> {
 
     /// Gives the value back, with its new entries counted, and lets the next pass in.
     pub fn leave(&self, pass: &mut Pass<X>, held: Held<X>)
-        requires own { lock_of pass.old ≡ self.now.table.shared.table_id }
+        requires own { IsPassOf self.now pass.old }
         requires grows { (found : X) × IsInside pass.old found × Grows X.log X.part pass.old.number found held.value }
         ensures same { IsSame pass.old pass.new }
-        ensures outside { pass.new.inside ≡ false }
+        ensures outside { IsOutside pass.new }
         ensures left { knows pass.new ≡ left_with X.log X.part held.value (knows pass.old) }
     {
         self.give(&mut pass.seat, held.value);

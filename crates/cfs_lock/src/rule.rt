@@ -8,6 +8,7 @@ use atomic_table::{Join, Play, Split, TableRule};
 use std::snapshot::Snapshot;
 
 /// The value when the lock was made, and how many numbers there are.
+#[derive(Drop)]
 pub struct Origin<X> {
     pub base: Snapshot<X>,
     pub passes: u32,
