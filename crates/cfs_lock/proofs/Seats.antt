@@ -5,7 +5,7 @@ use Rattle.std.proofs.lemmas.List.{append-nil}
 use Rattle.std.proofs.lemmas.List.Elements.{All-append, All-cons, All-nil}
 use Rattle.std.proofs.lemmas.List.Sums.{sum_by_push}
 use Rattle.atomic_table.specs.Table as table
-use Rattle.atomic_table.specs.Table.{Joins, Splits, State}
+use Rattle.atomic_table.specs.Table.{Final, Joins, Seen, Splits, State}
 use Rattle.atomic_table.proofs.Lists.{set_else}
 use mathlib.Core.Option.{some, some-injective, some-ne-none}
 use mathlib.Core.Logic.{dite}
@@ -17,6 +17,7 @@ use Rattle.cfs_lock.specs.declared.view.View.{View}
 use Rattle.cfs_lock.specs.Log.{BeginsWith, IsNewTo, Log, Part, entries_by}
 use Rattle.cfs_lock.specs.Passes.{IsNewElse}
 use Rattle.cfs_lock.specs.Rule.{InLine, Kept, Numbered, StageIs, Stands, Unused, busy, busy_at, has_ticket, holding, holding_at, home_of, keeps_number, places, ticket_at}
+use Rattle.cfs_lock.specs.Stages.{stage_code}
 use Rattle.cfs_lock.specs.Views.{Finds, IsOf, blank, cut_left, cut_right, joined, kept, next_number, opening, spent}
 use Rattle.cfs_lock.proofs.Lists.{each_set, each_snoc, moved, one, two, under}
 use Rattle.cfs_lock.proofs.Logs.{kept-append, kept-length}
@@ -240,3 +241,17 @@ module _ {X : Type 0} (log : X → Log) (part : X → ℕ → Part) (base : Log)
         },
         ends.1,
       )
+
+  -- what is taken out of a lock that was ended so
+  pub ends : (seat : ℕ) (v : View X) (words : List ℕ) (slots : List (Option X)) (taken : Option X) → Final (Seen (Kept log part base bound) seat v) words slots → v.stage ≡ Idle → 0 < places v → v.bound ≤ places v + v.left
+      → get_elem? slots 0 ≡ some taken → (value : X) × (taken ≡ Some value) × Finds log part v value × IsNewElse log part v value × (places v + v.left ≡ v.bound)
+  ends seat v words slots taken last idle booked all is =
+      let ended = closes last.0 last.1.0 seat v last.1.1 idle booked all in
+      (ended.0, some-injective taken (Some ended.0) (sym is ∙ last.4 0 (Some ended.0) ended.1), ended.2, ended.3, ended.4)
+
+-- a stage whose code is that of a pass outside
+pub idle_of : {X : Type 0} (stage : Stage X) → stage_code stage ≡ 0 → stage ≡ Idle
+idle_of Idle e = refl
+idle_of (Waits t) e = absurd (omega arith)
+idle_of (Holds t x) e = absurd (omega arith)
+idle_of (Done t) e = absurd (omega arith)
