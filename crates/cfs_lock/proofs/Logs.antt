@@ -1,12 +1,12 @@
 -- Logs and books: what a change by one number leaves of all others.
-use Rattle.std.proofs.Common.{◌≡◌, ◌≢◌, ℕ, ◌+◌, ◌<◌, ◌≤◌, ◌==◌, All, List, [], ◌∷◌, ◌++◌, cond, eqb, filter, length, get_or, sum_by, refl, sym, ap, ◌∙◌, subst, append_assoc, ne_eqb, arith}
+use Rattle.std.proofs.Common.{◌≡◌, ◌≢◌, ℕ, ◌+◌, ◌<◌, ◌≤◌, ◌==◌, All, List, [], ◌∷◌, ◌++◌, cond, eqb, length, get_or, refl, sym, ap, ◌∙◌, append_assoc, ne_eqb, arith}
 use Rattle.std.proofs.lemmas.Bool.Decides.{nat_tests}
 use Rattle.std.proofs.lemmas.List.{append-nil}
 use Rattle.std.proofs.lemmas.List.Elements.{All-cons, All-head, All-nil, All-tail, filter-append}
 use Rattle.std.proofs.lemmas.List.Sums.{count_by-le-length, sum_by-cons, sum_by-append, get_or-le-sum_by}
 use Rattle.cfs_lock.specs.declared.view.Book.{Book}
 use Rattle.cfs_lock.specs.Log.{BeginsWith, Entry, Grows, Log, Part, entries_by}
-use Rattle.cfs_lock.specs.Views.{IsOf, blank, first_number, kept, rewritten}
+use Rattle.cfs_lock.specs.Views.{IsOf, first_number, kept, rewritten}
 
 -- none of the entries has the number
 none_by : (number : ℕ) (log : Log) → All (λ entry. entry.0 ≢ number) log → entries_by number log ≡ []
@@ -47,7 +47,7 @@ module _ {X : Type 0} (log : X → Log) (part : X → ℕ → Part) where
       let count = sum_by-cons (λ (other : Book). cond (eqb other.number book.number) 1 0) book books in
       let none : kept book.number books ≡ 0 = grind (arith, nat_tests) in
       All-cons (IsOf log part y) (record { number = book.number; own = entries_by book.number (log y); part = part y book.number }) books (refl, refl)
-          (books_stay book.number x y g books none (All-tail (IsOf log part x) book books h))
+      (books_stay book.number x y g books none (All-tail (IsOf log part x) book books h))
 
 pub rewritten-length : (own : Log) (part : Part) (books : List Book) → length (rewritten own part books) ≡ length books
 rewritten-length own part [] = refl

@@ -1,5 +1,5 @@
 -- How a lock begins and ends, and how passes are split and joined.
-use Rattle.std.proofs.Common.{◌≡◌, ◌≢◌, ℕ, zero, suc, ◌+◌, ◌-◌, ◌<◌, ◌≤◌, All, List, [], ◌∷◌, ◌++◌, Option, Some, cond, eqb, length, length-append, set, sum_by, refl, sym, ap, ◌∙◌, subst, arith}
+use Rattle.std.proofs.Common.{◌≡◌, ◌≢◌, ℕ, zero, suc, ◌+◌, ◌<◌, ◌≤◌, List, [], ◌∷◌, ◌++◌, Option, Some, length, length-append, set, sum_by, refl, sym, ap, ◌∙◌, subst, arith}
 use Rattle.std.proofs.lemmas.Bool.Decides.{nat_tests}
 use Rattle.std.proofs.lemmas.List.{append-nil}
 use Rattle.std.proofs.lemmas.List.Elements.{All-append, All-cons, All-nil}
@@ -9,14 +9,14 @@ use Rattle.atomic_table.specs.Table.{Final, Joins, Seen, Splits, State}
 use Rattle.atomic_table.proofs.Lists.{set_else}
 use mathlib.Core.Option.{some, some-injective, some-ne-none}
 use mathlib.Core.Logic.{dite}
-use native.Mathlib.Decide.{dec_lt, ℕ_discrete}
+use native.Mathlib.Decide.{ℕ_discrete}
 use lib.ListN.{get_elem?}
 use Rattle.cfs_lock.specs.declared.view.Stage.{Stage}
 use Rattle.cfs_lock.specs.declared.view.Stage.TheVariants.{Idle, Waits, Holds, Done}
 use Rattle.cfs_lock.specs.declared.view.View.{View}
 use Rattle.cfs_lock.specs.Log.{BeginsWith, IsNewTo, Log, Part, entries_by}
 use Rattle.cfs_lock.specs.Passes.{IsNewElse}
-use Rattle.cfs_lock.specs.Rule.{InLine, Kept, Numbered, StageIs, Stands, Unused, busy, busy_at, has_ticket, holding, holding_at, home_of, keeps_number, places, ticket_at}
+use Rattle.cfs_lock.specs.Rule.{Kept, Stands, busy, busy_at, has_ticket, holding, holding_at, home_of, keeps_number, places, ticket_at}
 use Rattle.cfs_lock.specs.Stages.{stage_code}
 use Rattle.cfs_lock.specs.Views.{Finds, IsOf, blank, cut_left, cut_right, joined, kept, next_number, opening, spent}
 use Rattle.cfs_lock.proofs.Lists.{each_set, each_snoc, moved, one, two, under}
@@ -134,26 +134,26 @@ module _ {X : Type 0} (log : X → Log) (part : X → ℕ → Part) (base : Log)
               leads = λ nz. absurd (nz (grind (arith, nat_tests)));
             })
             (each_set (Stands log part base bound k.served (k.next + 1) k.value) s.views seat w
-                (record {
-                  stage = st.stage;
-                  booked = st.booked;
-                  origin = st.origin;
-                  fronts = st.fronts;
-                  books = st.books;
-                  follows = λ z. absurd (first z);
-                  leads = λ _. omega arith;
-                })
-                (λ j y n here.
-                    let us = k.each j y here in
-                    let other : keeps_number 0 y ≡ 0 = omega (arith, two (keeps_number 0) s.views seat j v y n at here, first, k.numbers.given 0 begun) in record {
-                      stage = us.stage;
-                      booked = us.booked;
-                      origin = us.origin;
-                      fronts = us.fronts;
-                      books = us.books;
-                      follows = us.follows;
-                      leads = λ nz. absurd (nz other);
-                    }));
+            (record {
+              stage = st.stage;
+              booked = st.booked;
+              origin = st.origin;
+              fronts = st.fronts;
+              books = st.books;
+              follows = λ z. absurd (first z);
+              leads = λ _. omega arith;
+            })
+            (λ j y n here.
+            let us = k.each j y here in
+            let other : keeps_number 0 y ≡ 0 = omega (arith, two (keeps_number 0) s.views seat j v y n at here, first, k.numbers.given 0 begun) in record {
+              stage = us.stage;
+              booked = us.booked;
+              origin = us.origin;
+              fronts = us.fronts;
+              books = us.books;
+              follows = us.follows;
+              leads = λ nz. absurd (nz other);
+            }));
       }
 
   pub joins : (seat : ℕ) (v : View X) (other : ℕ) (w : View X) → 0 < places v → w.stage ≡ Idle → Joins (Kept log part base bound) seat v other w (joined v w) spent
@@ -198,18 +198,18 @@ module _ {X : Type 0} (log : X → Log) (part : X → ℕ → Part) (base : Log)
               leads = λ nz. absurd (nz refl);
             })
             (λ j y n here. each_set (Stands log part base bound k.served k.next k.value) s.views seat both
-                (record {
-                  stage = st.stage;
-                  booked = omega (arith, length-append v.books w.books, st.booked);
-                  origin = λ _. st.origin booked;
-                  fronts = All-append (λ front. BeginsWith (log k.value) front) v.seen w.seen st.fronts us.fronts;
-                  books = All-append (IsOf log part k.value) v.books w.books st.books us.books;
-                  follows = λ z. omega (arith, st.follows (omega (arith, keeps_both 0, z)), us.follows (omega (arith, keeps_both 0, z)));
-                  leads = λ nz. dite (ℕ_discrete (keeps_number 0 v) 0)
-                      (λ z. omega (arith, st.follows z, us.leads (λ z'. nz (keeps_both 0 ∙ omega arith))))
-                      (λ some. omega (arith, st.leads some, us.follows (omega arith)));
-                })
-                (λ i x m at''. k.each i x at'') j y here);
+            (record {
+              stage = st.stage;
+              booked = omega (arith, length-append v.books w.books, st.booked);
+              origin = λ _. st.origin booked;
+              fronts = All-append (λ front. BeginsWith (log k.value) front) v.seen w.seen st.fronts us.fronts;
+              books = All-append (IsOf log part k.value) v.books w.books st.books us.books;
+              follows = λ z. omega (arith, st.follows (omega (arith, keeps_both 0, z)), us.follows (omega (arith, keeps_both 0, z)));
+              leads = λ nz. dite (ℕ_discrete (keeps_number 0 v) 0)
+                  (λ z. omega (arith, st.follows z, us.leads (λ z'. nz (keeps_both 0 ∙ omega arith))))
+                  (λ some. omega (arith, st.leads some, us.follows (omega arith)));
+            })
+            (λ i x m at''. k.each i x at'') j y here);
       }
 
   -- where a pass keeps all numbers that were given, the value is at home and all else is as at the start
@@ -222,16 +222,16 @@ module _ {X : Type 0} (log : X → Log) (part : X → ℕ → Part) (base : Log)
       let gone : View X = spent in
       let here : places v ≤ sum_by places s.views = one places s.views seat v at in
       let ends : (k.next ≡ places v) × (places v + v.left ≡ v.bound) = dite (ℕ_discrete (keeps_number 0 v) 0)
-          (λ z. let e = st.follows z in (omega (arith, k.numbers.all_kept, k.numbers.most), omega (arith, k.numbers.all_kept, k.numbers.most)))
-          (λ nz. let e = st.leads nz in (omega (arith, k.numbers.all_kept), omega (arith, k.numbers.all_kept))) in
+      (λ z. let e = st.follows z in (omega (arith, k.numbers.all_kept, k.numbers.most), omega (arith, k.numbers.all_kept, k.numbers.most)))
+      (λ nz. let e = st.leads nz in (omega (arith, k.numbers.all_kept), omega (arith, k.numbers.all_kept))) in
       let others : sum_by places (set s.views seat gone) ≡ 0 = omega (arith, moved places s.views seat v gone at, k.numbers.all_kept, ends.0) in
       let less = under holding places (set s.views seat gone)
-          (each_set (λ u. holding u ≤ places u) s.views seat gone (omega arith) (λ j u n at'. omega (arith, holding_busy u.stage, (k.each j u at').booked))) in
+      (each_set (λ u. holding u ≤ places u) s.views seat gone (omega arith) (λ j u n at'. omega (arith, holding_busy u.stage, (k.each j u at').booked))) in
       let home : sum_by holding s.views ≡ 0 = omega (arith, moved holding s.views seat v gone at, ap holding_at idle, less, others) in
       let not_given : (n : ℕ) → kept n v.books ≡ 0 → k.next ≤ n = λ n z.
-          let fewer = under (keeps_number n) places (set s.views seat gone) (λ j u at'. kept-length n u.books) in
-          let m = moved (keeps_number n) s.views seat v gone at in
-          let given : n < k.next → sum_by (keeps_number n) s.views ≡ 1 = k.numbers.given n in grind arith in (
+      let fewer = under (keeps_number n) places (set s.views seat gone) (λ j u at'. kept-length n u.books) in
+      let m = moved (keeps_number n) s.views seat v gone at in
+      let given : n < k.next → sum_by (keeps_number n) s.views ≡ 1 = k.numbers.given n in grind arith in (
         k.value,
         ap (λ hs. get_elem? hs 0) k.homes ∙ ap (λ n. some (home_of n k.value)) home,
         found_there log part base bound s k seat v at booked,

@@ -1,20 +1,20 @@
 -- Each step keeps the rule.
-use Rattle.std.proofs.Common.{◌≡◌, ◌≢◌, ℕ, zero, suc, ◌+◌, ◌-◌, ◌%◌, ◌^◌, ◌==◌, ◌<◌, ◌≤◌, All, List, [], ◌∷◌, ◌++◌, Option, Some, cond, eqb, length, set, slice_index, slice_set, sum_by, unwrap_or, refl, sym, ap, ap₂, ◌∙◌, subst, arith}
+use Rattle.std.proofs.Common.{◌≡◌, ◌≢◌, ℕ, ◌+◌, ◌%◌, ◌^◌, ◌<◌, ◌≤◌, List, [], ◌∷◌, Option, Some, cond, eqb, length, set, slice_index, slice_set, sum_by, unwrap_or, refl, sym, ap, ap₂, ◌∙◌, subst, arith}
 use Rattle.std.proofs.lemmas.Bool.Decides.{nat_tests}
 use Rattle.std.proofs.lemmas.List.{append-nil}
-use Rattle.std.proofs.lemmas.List.Elements.{All-append, All-cons, All-nil}
-use Rattle.atomic_table.specs.Table.{Act, Allows, Me, State, keeps, takes, gives}
+use Rattle.std.proofs.lemmas.List.Elements.{All-cons, All-nil}
+use Rattle.atomic_table.specs.Table.{Allows, Me, State, keeps, takes, gives}
 use Rattle.atomic_table.proofs.Lists.{one_turn}
 use mathlib.Core.Option.{some, none}
 use mathlib.Core.Logic.{dite}
-use native.Mathlib.Decide.{dec_le, ℕ_discrete}
+use native.Mathlib.Decide.{ℕ_discrete}
 use lib.ListN.{get_elem?}
 use Rattle.cfs_lock.specs.declared.view.Stage.{Stage}
 use Rattle.cfs_lock.specs.declared.view.Stage.TheVariants.{Idle, Waits, Holds, Done}
 use Rattle.cfs_lock.specs.declared.view.View.{View}
 use Rattle.cfs_lock.specs.Log.{BeginsWith, Grows, Log, Part, entries_by}
-use Rattle.cfs_lock.specs.Rule.{InLine, Kept, Numbered, StageIs, Stands, Unused, busy, busy_at, counted, drew, freed, has_ticket, holding, holding_at, home_of, keeps_number, looked, places, ticket_at, word_of}
-use Rattle.cfs_lock.specs.Views.{Finds, IsOf, at_stage, first_number, left_with}
+use Rattle.cfs_lock.specs.Rule.{InLine, Kept, Numbered, StageIs, Stands, busy, busy_at, has_ticket, holding, holding_at, home_of, keeps_number, places, ticket_at, word_of}
+use Rattle.cfs_lock.specs.Views.{Finds, at_stage, first_number, left_with}
 use Rattle.cfs_lock.proofs.Lists.{each_set, moved, one, same_sum, two, under}
 use Rattle.cfs_lock.proofs.Logs.{books_rewritten, books_stay, first_kept, front_grows, others_stay, rewritten-kept, rewritten-length}
 
@@ -166,7 +166,7 @@ module _ {X : Type 0} (log : X → Log) (part : X → ℕ → Part) (base : Log)
       let in' = within k.drawn k.served k.served s.views seat v at mine k.line in
       let total = k.line.turns k.served in'.0 in'.1 in
       let less = under holding (has_ticket k.served) (set s.views seat w)
-          (each_set (λ u. holding u ≤ has_ticket k.served u) s.views seat w (omega arith) (λ j u n here. holds_its_ticket k.served k.value u.stage (k.each j u here).stage)) in
+      (each_set (λ u. holding u ≤ has_ticket k.served u) s.views seat w (omega arith) (λ j u n here. holds_its_ticket k.served k.value u.stage (k.each j u here).stage)) in
       omega (arith, moved holding s.views seat v w at, moved (has_ticket k.served) s.views seat v w at, ap holding_at waits, mine, total, less)
 
   -- what the value is to a view that waits
@@ -180,7 +180,7 @@ module _ {X : Type 0} (log : X → Log) (part : X → ℕ → Part) (base : Log)
 
   pub looks : (slots seat : ℕ) (v : View X) (carried : List (ℕ × Option X)) (ticket : ℕ) → v.stage ≡ Waits ticket
       → Allows (Kept log part base bound) slots seat (v, carried) 1 (λ n. n) (λ n m. (t : ℕ) → v.stage ≡ Waits t
-          → (n ≡ word_of t → (x : X) × Finds log part v x × (m ≡ (at_stage (Holds t x) v, (0, Some x) ∷ carried))) × (n ≢ word_of t → m ≡ (v, carried)))
+      → (n ≡ word_of t → (x : X) × Finds log part v x × (m ≡ (at_stage (Holds t x) v, (0, Some x) ∷ carried))) × (n ≢ word_of t → m ≡ (v, carried)))
   looks slots seat v carried ticket waits s k sized at fits =
       let found : slice_index s.words 1 ≡ word_of k.served = ap (λ (ws : List ℕ). slice_index ws 1) k.words in
       let mine : has_ticket ticket v ≡ 1 = ap (ticket_at ticket) waits ∙ own_ticket ticket in
@@ -190,31 +190,32 @@ module _ {X : Type 0} (log : X → Log) (part : X → ℕ → Part) (base : Log)
       let same : (t : ℕ) → v.stage ≡ Waits t → t ≡ ticket = λ t e. cc in
       dite (ℕ_discrete (word_of k.served) (word_of ticket))
       (λ e.
-          let turn : k.served ≡ ticket = one_turn k.served ticket 18446744073709551616 in'.0 (omega (arith, line_short s k, in'.1)) e in
-          let w : View X = at_stage (Holds ticket k.value) v in
-          let home = at_home s k seat v at (waits ∙ ap Waits (sym turn)) in
-          let out : sum_by holding (set s.views seat w) ≡ 1 = omega (arith, moved holding s.views seat v w at, ap holding_at waits, home) in (
-            w,
-            takes 0 (Some k.value),
-            ap (λ hs. get_elem? hs 0) k.homes ∙ ap (λ n. some (home_of n k.value)) home,
-            record {
-              drawn = k.drawn;
-              served = k.served;
-              next = k.next;
-              value = k.value;
-              words = words;
-              homes = ap (λ hs. slice_set hs 0 none) k.homes ∙ ap (λ n. home_of n k.value ∷ []) (sym out);
-              line = line_stays k.drawn k.served s.views seat v w at (sym (ap busy_at waits)) (λ t. sym (ap (ticket_at t) waits)) k.line;
-              numbers = numbers_stay k.next bound s.views seat v (Holds ticket k.value) at k.numbers;
-              unused = k.unused;
-              each = each_set (Stands log part base bound k.served k.next k.value) s.views seat w
-                  (restaged log part base bound k.served k.served k.next k.value v (Holds ticket k.value) (k.each seat v at) (sym turn, refl) booked)
-                  (λ j u n here. k.each j u here);
-            },
-            (λ t is. let t_is = same t is in
-                (λ _. (k.value, found_there s k seat v at booked, ap (λ (z : ℕ). (at_stage (Holds z k.value) v, (0, Some k.value) ∷ carried)) (sym t_is)),
-                λ other. absurd (other (found ∙ (e ∙ ap word_of (sym t_is)))))),
-          ))
+      let turn : k.served ≡ ticket = one_turn k.served ticket 18446744073709551616 in'.0 (omega (arith, line_short s k, in'.1)) e in
+      let w : View X = at_stage (Holds ticket k.value) v in
+      let home = at_home s k seat v at (waits ∙ ap Waits (sym turn)) in
+      let out : sum_by holding (set s.views seat w) ≡ 1 = omega (arith, moved holding s.views seat v w at, ap holding_at waits, home) in (
+        w,
+        takes 0 (Some k.value),
+        ap (λ hs. get_elem? hs 0) k.homes ∙ ap (λ n. some (home_of n k.value)) home,
+        record {
+          drawn = k.drawn;
+          served = k.served;
+          next = k.next;
+          value = k.value;
+          words = words;
+          homes = ap (λ hs. slice_set hs 0 none) k.homes ∙ ap (λ n. home_of n k.value ∷ []) (sym out);
+          line = line_stays k.drawn k.served s.views seat v w at (sym (ap busy_at waits)) (λ t. sym (ap (ticket_at t) waits)) k.line;
+          numbers = numbers_stay k.next bound s.views seat v (Holds ticket k.value) at k.numbers;
+          unused = k.unused;
+          each = each_set (Stands log part base bound k.served k.next k.value) s.views seat w
+              (restaged log part base bound k.served k.served k.next k.value v (Holds ticket k.value) (k.each seat v at) (sym turn, refl) booked)
+              (λ j u n here. k.each j u here);
+        },
+        (λ t is. let t_is = same t is in (
+          λ _. (k.value, found_there s k seat v at booked, ap (λ (z : ℕ). (at_stage (Holds z k.value) v, (0, Some k.value) ∷ carried)) (sym t_is)),
+          λ other. absurd (other (found ∙ (e ∙ ap word_of (sym t_is)))),
+        )),
+      ))
       (λ ne. (
         v,
         keeps,
@@ -261,9 +262,9 @@ module _ {X : Type 0} (log : X → Log) (part : X → ℕ → Part) (base : Log)
           each = each_set (Stands log part base bound (k.served + 1) k.next k.value) s.views seat w
               (restaged log part base bound k.served (k.served + 1) k.next k.value v Idle st tt (omega arith))
               (λ j u n here.
-                  let us = k.each j u here in
-                  let none : has_ticket k.served u ≡ 0 = omega (arith, two (has_ticket k.served) s.views seat j v u n at here, mine, total) in
-                  restaged log part base bound k.served (k.served + 1) k.next k.value u u.stage us (waits_on k.served (k.served + 1) k.value k.value u.stage us.stage none) us.booked);
+              let us = k.each j u here in
+              let none : has_ticket k.served u ≡ 0 = omega (arith, two (has_ticket k.served) s.views seat j v u n at here, mine, total) in
+              restaged log part base bound k.served (k.served + 1) k.next k.value u u.stage us (waits_on k.served (k.served + 1) k.value k.value u.stage us.stage none) us.booked);
         },
         refl,
       )
@@ -299,7 +300,7 @@ module _ {X : Type 0} (log : X → Log) (part : X → ℕ → Part) (base : Log)
 
   counts : (slots seat : ℕ) (v : View X) (ticket count : ℕ) (x y : X) → v.stage ≡ Holds ticket x → Grows log part (first_number v.books) x y → count ≡ length (log y)
       → Allows (Kept log part base bound) slots seat (v, (0, Some y) ∷ []) 2 (λ _. count) (λ n m. (t : ℕ) (before after : X) → v.stage ≡ Holds t before → ◌≡◌ {A = List (ℕ × Option X)} ((0, Some y) ∷ []) ((0, Some after) ∷ [])
-          → m ≡ (at_stage (Done t) (left_with log part after v), []))
+      → m ≡ (at_stage (Done t) (left_with log part after v), []))
   counts slots seat v ticket count x y holds g is s k sized at fits =
       let w : View X = at_stage (Done ticket) (left_with log part y v) in
       let number : ℕ = first_number v.books in
@@ -344,10 +345,10 @@ module _ {X : Type 0} (log : X → Log) (part : X → ℕ → Part) (base : Log)
           each = each_set (Stands log part base bound k.served k.next y) s.views seat w
               (recorded k.served k.next ticket k.value y v g' (omega (arith, one (keeps_number number) s.views seat v at, only)) booked turn st)
               (λ j u n there.
-                  let us = k.each j u there in
-                  let other : keeps_number number u ≡ 0 = omega (arith, two (keeps_number number) s.views seat j v u n at there, has, only) in
-                  let idle : has_ticket k.served u ≡ 0 = omega (arith, two (has_ticket k.served) s.views seat j v u n at there, mine, total) in
-                  outgrown k.served k.next number k.value y u g' other (waits_on k.served k.served k.value y u.stage us.stage idle) us);
+              let us = k.each j u there in
+              let other : keeps_number number u ≡ 0 = omega (arith, two (keeps_number number) s.views seat j v u n at there, has, only) in
+              let idle : has_ticket k.served u ≡ 0 = omega (arith, two (has_ticket k.served) s.views seat j v u n at there, mine, total) in
+              outgrown k.served k.next number k.value y u g' other (waits_on k.served k.served k.value y u.stage us.stage idle) us);
         },
         (λ t before after e e'.
             let same : ticket ≡ t = cc in let same' : y ≡ after = ap (lying y) e' in
@@ -358,6 +359,6 @@ module _ {X : Type 0} (log : X → Log) (part : X → ℕ → Part) (base : Log)
       → Allows (Kept log part base bound) slots seat m 2 (λ _. count) (λ n m'. (t : ℕ) (before after : X) → m.0.stage ≡ Holds t before → m.1 ≡ (0, Some after) ∷ [] → m' ≡ (at_stage (Done t) (left_with log part after m.0), []))
   counts_out slots seat m ticket count x y holds hand g is =
       subst
-          (λ (c : List (ℕ × Option X)). Allows (Kept log part base bound) slots seat (m.0, c) 2 (λ _. count)
-              (λ n m'. (t : ℕ) (before after : X) → m.0.stage ≡ Holds t before → c ≡ (0, Some after) ∷ [] → m' ≡ (at_stage (Done t) (left_with log part after m.0), [])))
-          (sym hand) (counts slots seat m.0 ticket count x y holds g is)
+      (λ (c : List (ℕ × Option X)). Allows (Kept log part base bound) slots seat (m.0, c) 2 (λ _. count)
+      (λ n m'. (t : ℕ) (before after : X) → m.0.stage ≡ Holds t before → c ≡ (0, Some after) ∷ [] → m' ≡ (at_stage (Done t) (left_with log part after m.0), [])))
+      (sym hand) (counts slots seat m.0 ticket count x y holds g is)

@@ -6,7 +6,7 @@ use Rattle.cfs_lock.specs.declared.pass.Pass.{Pass}
 use Rattle.cfs_lock.specs.declared.view.Stage.TheVariants.{Holds}
 use Rattle.cfs_lock.specs.declared.view.View.{View}
 use Rattle.cfs_lock.specs.Log.{Log, Part, entries_by}
-use Rattle.cfs_lock.specs.Views.{at_stage, kept}
+use Rattle.cfs_lock.specs.Views.{kept}
 
 module _ {X : Type 0} where
   -- which lock a pass is of

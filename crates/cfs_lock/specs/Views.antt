@@ -1,8 +1,8 @@
 -- What a pass knows, and how it changes.
-use Rattle.std.specs.Prelude.{◌≡◌, ℕ, ◌+◌, ◌-◌, ◌==◌, ◌≤◌, All, List, [], ◌∷◌, ◌++◌, count_by, length, if◌then◌else◌}
+use Rattle.std.specs.Prelude.{◌≡◌, ℕ, ◌+◌, ◌-◌, ◌==◌, ◌≤◌, All, List, [], ◌∷◌, ◌++◌, count_by}
 use Rattle.cfs_lock.specs.declared.view.Book.{Book}
 use Rattle.cfs_lock.specs.declared.view.Stage.{Stage}
-use Rattle.cfs_lock.specs.declared.view.Stage.TheVariants.{Idle, Waits, Holds, Done}
+use Rattle.cfs_lock.specs.declared.view.Stage.TheVariants.{Idle}
 use Rattle.cfs_lock.specs.declared.view.View.{View}
 use Rattle.cfs_lock.specs.Log.{BeginsWith, Log, Part, entries_by}
 
@@ -67,5 +67,5 @@ module _ {X : Type 0} where
     -- after the value was left
     abbrev pub left_with : X → View X → View X
     left_with value view =
-      let number = first_number view.books in
-      record view { stage = Idle; seen = log value ∷ []; books = rewritten (entries_by number (log value)) (part value number) view.books }
+        let number = first_number view.books in
+        record view { stage = Idle; seen = log value ∷ []; books = rewritten (entries_by number (log value)) (part value number) view.books }

@@ -123,9 +123,7 @@ impl<X: Recorded> TreeLock<X> {
             inside: _,
             seat,
         } = other;
-        self.table
-            .shared
-            .join_seat::<Glue>(&mut pass.seat, seat);
+        self.table.shared.join_seat::<Glue>(&mut pass.seat, seat);
         pass.held = pass.held.saturating_add(held);
     }
 

@@ -1,4 +1,4 @@
-use Rattle.std.proofs.Common.{rules, ℕ, [], ◌∷◌, Some, sym, ap, subst}
+use Rattle.std.proofs.Common.{rules, ℕ, [], ◌∷◌, Some, sym, subst}
 use Rattle.atomic_table.specs.Table as table
 use Rattle.cfs_lock.specs.Rule.{Kept}
 use Rattle.cfs_lock.specs.Views.{opening}
@@ -12,5 +12,5 @@ new-requires g c =
     let passes : ℕ = c.args.passes in
     let count : ℕ = c.count.result in
     subst (λ slots. Kept log part (log c.of.result.value) passes (table.opening (0 ∷ 0 ∷ count ∷ []) slots (opening (log c.of.result.value) passes))) (sym c.in_ok-slots.ensures.made)
-        (subst (λ value. Kept log part (log value) passes (table.opening (0 ∷ 0 ∷ count ∷ []) (Some c.args.value ∷ []) (opening (log value) passes))) (sym c.of.ensures)
-            (opens log part c.args.value passes count c.requires.some (search rules) c.requires.unused c.count.ensures))
+    (subst (λ value. Kept log part (log value) passes (table.opening (0 ∷ 0 ∷ count ∷ []) (Some c.args.value ∷ []) (opening (log value) passes))) (sym c.of.ensures)
+    (opens log part c.args.value passes count c.requires.some (search rules) c.requires.unused c.count.ensures))

@@ -8,4 +8,4 @@ pub returns-in-Some-look-clause-found : goal.returns-in-Some-look-clause-found
 returns-in-Some-look-clause-found g c =
     let drawn = c.draw-ticket.ensures.drawn in
     finds_any g.X.Recorded.log g.X.Recorded.part c.args.seat.now.me.0 (Waits drawn.0) c.in-Some-look.value
-        (subst (λ v. Finds g.X.Recorded.log g.X.Recorded.part v c.in-Some-look.value) (ap (λ m. m.0) (c.loop.invariant.1 ∙ drawn.2)) c.in-Some-look.ensures.found)
+    (subst (λ v. Finds g.X.Recorded.log g.X.Recorded.part v c.in-Some-look.value) (ap (λ m. m.0) (c.loop.invariant.1 ∙ drawn.2)) c.in-Some-look.ensures.found)
