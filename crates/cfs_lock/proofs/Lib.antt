@@ -1,0 +1,4 @@
+pub mod Lists
+pub mod Logs
+pub mod Steps
+pub mod Seats
