@@ -1,11 +1,9 @@
 -- Steps on one block: what is left at each moment, and what the world shows behind them.
-use Rattle.std.proofs.Common.{◌≡◌, ◌≢◌, ◌⊎◌, inl, inr, ℕ, zero, ◌+◌, ◌*◌, ◌/◌, ◌<◌, ◌≤◌, ◌==◌, Bool, true, false, if◌then◌else◌, Option, Some, None, List, [], ◌∷◌, length, get_or, arith, refl, sym, ap, subst, ◌∙◌}
+use Rattle.std.proofs.Common.{◌≡◌, ◌≢◌, inl, inr, ℕ, ◌+◌, ◌*◌, ◌/◌, ◌<◌, ◌==◌, Bool, true, false, if◌then◌else◌, Option, Some, None, List, length, get_or, arith, refl, sym, ap, subst, ◌∙◌}
 use Rattle.std.proofs.Math.Path.{fun_ext}
 use Rattle.cfs_file.specs.declared.sizes.TheConstants.{BLOCK_LEN, FILE_BLOCKS}
 use Rattle.cfs_core.specs.declared.flag.Flag.TheVariants.{Off}
 use Rattle.cfs_core.specs.declared.inode_core.Core.{Core}
-use Rattle.cfs_core.specs.Medium.{is_loose}
-use Rattle.cfs_core.specs.Good.{IsGood}
 use Rattle.cfs_core.proofs.Legal.{same_number}
 use Rattle.cfs_core.proofs.Order.{same_or_not}
 use Rattle.cfs_pmem.specs.declared.trace.Asked.{Asked}
@@ -15,10 +13,10 @@ use Rattle.cfs_pmem.specs.Moments.{Moments}
 use Rattle.cfs_pmem.specs.Objects.{IsBehind}
 use Rattle.cfs_pmem.proofs.AllMomentLemmas.{among}
 use Rattle.cfs_pmem.proofs.MomentLemmas.{at_end}
-use Rattle.cfs_block.specs.BlockImages.{BlockStep, Content, IsBlockImage, content_of}
-use Rattle.cfs_medium.specs.BlockCalls.{BlockCall, DiffersIn, MayBe}
+use Rattle.cfs_block.specs.BlockImages.{BlockStep, Content, IsBlockImage}
+use Rattle.cfs_medium.specs.BlockCalls.{DiffersIn, MayBe}
 use Rattle.cfs_medium.specs.Laws.{BlocksMayChange}
-use Rattle.cfs_medium.specs.Shows.{BlockFits, BlockShown, HasShape, ReadsAs, Recovers, RemainsFit, Shows, holding, is_for}
+use Rattle.cfs_medium.specs.Shows.{BlockFits, BlockShown, HasShape, ReadsAs, Recovers, RemainsFit, Shows}
 use Rattle.cfs_medium.specs.World.{IsImageAt, MayRemain, Remains, World}
 use Rattle.cfs_medium.specs.WorldCalls.{HasBlock, IsWorldCall, WorldMoments, of_block, with_block}
 use Rattle.cfs_medium.proofs.LiveLeft.{fitting-recovers}
@@ -172,12 +170,13 @@ same_core block core = record {
 
 pub blocks-change : BlocksMayChange
 blocks-change ino n block call core now world seen new asked_old asked_new shows here differs good
-    shape room fits reads moments =
-    (subst (λ w. WorldMoments (Recovers ino n now) asked_old w asked_new
-    (with_block block (Some new) world)) (same_block block (Some seen) world here)
-    (block_moments block world (MayBe call seen) (Recovers ino n now) gives moments),
-    block_shows ino block core now world (Some new) shows differs shape
-    (record { images = λ content image. fits content (at_end moments content image); reads = reads }))
+    shape room fits reads moments = (
+      subst (λ w. WorldMoments (Recovers ino n now) asked_old w asked_new
+          (with_block block (Some new) world)) (same_block block (Some seen) world here)
+          (block_moments block world (MayBe call seen) (Recovers ino n now) gives moments),
+      block_shows ino block core now world (Some new) shows differs shape
+          (record { images = λ content image. fits content (at_end moments content image); reads = reads }),
+    )
   where
     gives : (at : Seen BlockStep) →
         ((content : Content) → IsBlockImage at.history content → MayBe call seen content) →

@@ -1,22 +1,21 @@
 -- What fits a core is one of its images.
-use Rattle.std.proofs.Common.{◌≡◌, inl, inr, ℕ, ◌+◌, ◌-◌, ◌*◌, ◌/◌, ◌%◌, ◌<◌, ◌≤◌, ◌==◌, Bool, true, false, ◌||◌, if◌then◌else◌, Option, Some, None, List, [], length, map, get_or, arith, refl, sym, ap, subst, ◌∙◌}
+use Rattle.std.proofs.Common.{◌≡◌, inl, inr, ℕ, ◌+◌, ◌-◌, ◌*◌, ◌/◌, ◌%◌, ◌<◌, ◌==◌, Bool, true, false, ◌||◌, if◌then◌else◌, Option, Some, None, List, length, map, get_or, arith, refl, sym, ap, subst, ◌∙◌}
 use Rattle.std.specs.List.{range_with_len}
 use Rattle.std.proofs.lemmas.Bool.{cases_lt}
 use Rattle.std.proofs.lemmas.Bool.Decides.{nat_tests}
 use Rattle.std.proofs.lemmas.List.{get_or_past}
 use Rattle.std.proofs.lemmas.List.FromFn.{get_or-map-range_with_len, length-map-range_with_len}
-use Rattle.cfs_file.specs.declared.sizes.TheConstants.{BLOCK_LEN, FILE_BLOCKS}
+use Rattle.cfs_file.specs.declared.sizes.TheConstants.{BLOCK_LEN}
 use Rattle.cfs_core.specs.declared.doubt.Doubt.{Doubt}
 use Rattle.cfs_core.specs.declared.flag.Flag.{Flag}
 use Rattle.cfs_core.specs.declared.flag.Flag.TheVariants.{Off, On, Unsure}
 use Rattle.cfs_core.specs.declared.image.Image.{Image}
 use Rattle.cfs_core.specs.declared.inode_core.Core.{Core}
 use Rattle.cfs_core.specs.Words.{blank, can_be, is_on, track}
-use Rattle.cfs_core.specs.Medium.{agree, bytes_agree, doubt_gate, gates_agree, is_image, is_loose, is_size, marks_agree}
+use Rattle.cfs_core.specs.Medium.{agree, bytes_agree, doubt_gate, gates_agree, is_image, is_loose, marks_agree}
 use Rattle.cfs_core.proofs.Images.{all_in_range}
 use Rattle.cfs_core.proofs.Legal.{and_all, or_right, same_number}
 use Rattle.cfs_slot.specs.Words.{mark_of}
-use Rattle.cfs_block.specs.BlockImages.{Content}
 use Rattle.cfs_medium.specs.World.{Remains, head_words}
 use Rattle.cfs_medium.specs.Shows.{HasShape, RemainsFit, SlotFits, doubted, holding, is_doubt_open, is_for, is_gated, logged_at}
 
@@ -194,8 +193,12 @@ firm-byte ino core remains shape fits p firm =
       | inr past ↦
           let unset : get_or (tags_left ino core remains) (p / BLOCK_LEN) false ≡ false =
           get_or_past (tags_left ino core remains) (p / BLOCK_LEN) false
-          (omega (arith, past, length-map-range_with_len (is_set_at ino remains) 0
-          (length core.tags))) in
+          (omega (
+            arith,
+            past,
+            length-map-range_with_len (is_set_at ino remains) 0
+                (length core.tags),
+          )) in
           cc
     ]
 

@@ -15,3 +15,4 @@ pub mod SlotSteps
 pub mod BlockSteps
 pub mod SizeSteps
 pub mod SlotEvents
+pub mod BlockEvents

@@ -1,31 +1,28 @@
 -- The live entries of what fits a core are those of its image, so its file is recovered.
-use Rattle.std.proofs.Common.{◌≡◌, ◌⊎◌, inl, inr, ℕ, zero, suc, ◌+◌, ◌-◌, ◌<◌, ◌≤◌, ◌==◌, Bool, true, false, not, ◌&&◌, if◌then◌else◌, cond, Option, Some, None, List, [], ◌∷◌, ◌++◌, length, map, filter, drop, get_or, slice_get, arith, refl, sym, ap, subst, ◌∙◌}
+use Rattle.std.proofs.Common.{◌≡◌, ◌⊎◌, inl, inr, ℕ, zero, suc, ◌+◌, ◌-◌, ◌<◌, ◌≤◌, ◌==◌, Bool, true, false, not, if◌then◌else◌, cond, Option, Some, None, List, [], ◌∷◌, ◌++◌, length, map, filter, drop, slice_get, arith, refl, sym, ap, subst, ◌∙◌}
 use Rattle.std.specs.Option.{option_map}
 use Rattle.std.specs.List.{filter_map, range_with_len}
 use Rattle.std.proofs.lemmas.Bool.Decides.{nat_tests}
-use Rattle.std.proofs.lemmas.List.{map-append}
 use Rattle.std.proofs.lemmas.List.FromFn.{get_or-map-range_with_len}
 use Rattle.std.proofs.lemmas.Option.{slice_get_within}
 use Rattle.cfs_file.specs.declared.entry.Entry.{Entry}
 use Rattle.cfs_file.specs.declared.request.Request.{Request}
-use Rattle.cfs_file.specs.Log.{file_of}
 use Rattle.cfs_core.specs.declared.doubt.Doubt.{Doubt}
 use Rattle.cfs_core.specs.declared.flag.Flag.TheVariants.{Off}
 use Rattle.cfs_core.specs.declared.image.Image.{Image}
 use Rattle.cfs_core.specs.declared.inode_core.Core.{Core}
-use Rattle.cfs_core.specs.declared.track.Track.{Track}
 use Rattle.cfs_core.specs.Good.{IsGood}
-use Rattle.cfs_core.specs.Medium.{bit_at, in_doubt, is_open, live_entries, open_entries, placed, placed_doubt, placed_entry, recovered, stored}
-use Rattle.cfs_core.specs.Words.{blank, can_be, track}
-use Rattle.cfs_core.proofs.Legal.{and_all, both, same_number}
+use Rattle.cfs_core.specs.Medium.{bit_at, is_open, live_entries, open_entries, placed, placed_doubt, placed_entry, stored}
+use Rattle.cfs_core.specs.Words.{can_be, track}
+use Rattle.cfs_core.proofs.Legal.{both, same_number}
 use Rattle.cfs_slot.specs.Words.{gate_of, ino_of, is_live, live_entry, mark_of, request_of}
 use Rattle.cfs_medium.specs.Depicts.{entries_of}
 use Rattle.cfs_medium.specs.Laws.{FittingRemainsRecover, ShownWorldsRecover}
 use Rattle.cfs_medium.specs.Shows.{HasShape, RemainsFit, Shows, SlotFits, doubted, entry_of, holding, is_doubt_open, is_gated, logged_at}
-use Rattle.cfs_medium.specs.Store.{by_gate, taken_through}
-use Rattle.cfs_medium.specs.World.{MayRemain, Remains, World, head_words, live_at, live_below, stored_of}
+use Rattle.cfs_medium.specs.Store.{taken_through}
+use Rattle.cfs_medium.specs.World.{MayRemain, Remains, World, head_words, live_at, live_below}
 use Rattle.cfs_medium.proofs.Has.{Has}
-use Rattle.cfs_medium.proofs.Left.{AllFit, equal_test, gate_at, gate_left, is_doubted, left, left-is, mark_at, mark_left, own_mark, track-next}
+use Rattle.cfs_medium.proofs.Left.{AllFit, equal_test, gate_at, gate_left, is_doubted, left, left-is, mark_at}
 use Rattle.cfs_medium.proofs.Recovered.{rises-entries, taken_through-entries}
 use Rattle.cfs_medium.proofs.Slots.{among-apart, among-stands, stands-among}
 use Rattle.cfs_medium.proofs.Sorted.{by_gate-rising}
@@ -303,8 +300,11 @@ logged-has ino core remains doubt bit place e good tracks alone fits live =
         let asked : placed (track core.tracks entry.place).span entry.request
         ≡ request_of (head_words (remains.slots place)) (drop 1 (remains.slots place)) =
         ap (λ (n : ℕ). placed (track core.tracks n).span entry.request) place_is ∙ known.1.1 in
-        live.is ∙ (ap (λ (n : ℕ). (n, request_of (head_words (remains.slots place))
-        (drop 1 (remains.slots place)))) (number ∙ sym place_is)
+        live.is ∙ (ap (λ (n : ℕ). (
+          n,
+          request_of (head_words (remains.slots place))
+              (drop 1 (remains.slots place)),
+        )) (number ∙ sym place_is)
         ∙ ap (λ (r : Request). (entry.place, r)) (sym asked))
 
 doubted-has : (ino : ℕ) (core : Core) (remains : Remains) (image : Image) (d : Doubt)
@@ -318,8 +318,11 @@ doubted-has ino core remains image d e fits live =
     some_same (fits.request live.gated) in
     let pair : e ≡ pair_of (placed_entry d.span d.entry) =
     live.is
-    ∙ (ap (λ (n : ℕ). (n, request_of (head_words (remains.slots d.entry.place))
-    (drop 1 (remains.slots d.entry.place)))) (fits.number live.gated)
+    ∙ (ap (λ (n : ℕ). (
+      n,
+      request_of (head_words (remains.slots d.entry.place))
+          (drop 1 (remains.slots d.entry.place)),
+    )) (fits.number live.gated)
     ∙ ap (λ (r : Request). (d.entry.place, r)) (sym asked)) in
     let opened : placed_doubt (Some d) (is_doubt_open (Some d) remains)
     ≡ placed_entry d.span d.entry ∷ [] =
@@ -452,8 +455,11 @@ opened-live ino n core remains entry good tracks room fit logged opens =
     stands =
         as-live ino (head_words (remains.slots (k + 1))) (drop 1 (remains.slots (k + 1))) tells.1
         unmarked (fits.file tells.1)
-        ∙ (ap (λ (p : ℕ). Some (p, request_of (head_words (remains.slots (k + 1)))
-        (drop 1 (remains.slots (k + 1))))) (fits.number tells.1 ∙ sym place_is)
+        ∙ (ap (λ (p : ℕ). Some (
+          p,
+          request_of (head_words (remains.slots (k + 1)))
+              (drop 1 (remains.slots (k + 1))),
+        )) (fits.number tells.1 ∙ sym place_is)
         ∙ ap (λ (r : Request). Some (entry.place, r)) (sym asked
         ∙ ap (λ (p : ℕ). placed (track core.tracks p).span entry.request) (sym place_is)))
 
@@ -476,8 +482,11 @@ doubt-live ino n core remains d room fits gated =
     stands =
         as-live ino (head_words (remains.slots d.entry.place)) (drop 1 (remains.slots d.entry.place))
         gated unmarked (fits.file gated)
-        ∙ (ap (λ (p : ℕ). Some (p, request_of (head_words (remains.slots d.entry.place))
-        (drop 1 (remains.slots d.entry.place)))) (fits.number gated)
+        ∙ (ap (λ (p : ℕ). Some (
+          p,
+          request_of (head_words (remains.slots d.entry.place))
+              (drop 1 (remains.slots d.entry.place)),
+        )) (fits.number gated)
         ∙ ap (λ (r : Request). Some (d.entry.place, r)) (sym (some_same (fits.request gated))))
 
 -- the request in doubt, where its gate was left open

@@ -1,28 +1,21 @@
 -- Steps on the size word, and devices that come and go: what is left at each moment, and what the
 -- world shows behind them.
-use Rattle.std.proofs.Common.{◌≡◌, ◌≢◌, ◌⊎◌, inl, inr, ℕ, zero, ◌+◌, ◌<◌, ◌≤◌, Bool, true, false, Option, Some, None, List, [], ◌∷◌, length, get_or, arith, refl, sym, ap, subst, ◌∙◌}
+use Rattle.std.proofs.Common.{◌≡◌, inl, inr, ℕ, true, false, Option, Some, None, List, [], ◌∷◌, get_or, arith, refl}
 use Rattle.std.proofs.lemmas.Bool.Decides.{nat_tests}
-use Rattle.cfs_file.specs.declared.sizes.TheConstants.{FILE_BLOCKS}
-use Rattle.cfs_core.specs.declared.flag.Flag.{Flag}
-use Rattle.cfs_core.specs.declared.flag.Flag.TheVariants.{Off, On, Unsure}
+use Rattle.cfs_core.specs.declared.flag.Flag.TheVariants.{Off}
 use Rattle.cfs_core.specs.declared.inode_core.Core.{Core}
 use Rattle.cfs_core.specs.Words.{can_be}
-use Rattle.cfs_core.specs.Good.{IsGood}
 use Rattle.cfs_core.specs.Medium.{is_size}
-use Rattle.cfs_pmem.specs.declared.trace.Asked.{Asked}
-use Rattle.cfs_pmem.specs.Images.{Seen, WordStep, IsImage, IsSetFrom, stepped, words_of}
-use Rattle.cfs_pmem.specs.Moments.{Moments}
-use Rattle.cfs_pmem.specs.Objects.{IsEachImage}
+use Rattle.cfs_pmem.specs.Images.{Seen, WordStep, IsImage, IsSetFrom, stepped}
 use Rattle.cfs_pmem.proofs.AllMomentLemmas.{among}
 use Rattle.cfs_pmem.proofs.MomentLemmas.{at_end}
 use Rattle.cfs_block.specs.BlockImages.{BlockStep, Content, content_of}
-use Rattle.cfs_medium.specs.BlockCalls.{DiffersIn}
-use Rattle.cfs_medium.specs.Differs.{DiffersAt, DiffersInSize}
+use Rattle.cfs_medium.specs.Differs.{DiffersInSize}
 use Rattle.cfs_medium.specs.Laws.{BlocksMayCome, SizesMayBeSet, SlotsMayCome}
-use Rattle.cfs_medium.specs.Shows.{BlockFits, BlockShown, HasShape, ReadsAs, Recovers, RemainsFit, Shows, SlotFits, SlotsShown, holding, is_for, is_gated}
+use Rattle.cfs_medium.specs.Shows.{BlockFits, BlockShown, ReadsAs, Recovers, RemainsFit, Shows, SlotsShown, holding, is_for, is_gated}
 use Rattle.cfs_medium.specs.Store.{tag_of}
-use Rattle.cfs_medium.specs.World.{IsImageAt, MayRemain, Remains, World, head_words}
-use Rattle.cfs_medium.specs.WorldCalls.{AreShut, HasBlock, HasSlots, IsBare, IsWorldCall, WorldMoments, for_block, for_slots, of_size, with_block, with_size, with_slots}
+use Rattle.cfs_medium.specs.World.{MayRemain, Remains, World, head_words}
+use Rattle.cfs_medium.specs.WorldCalls.{AreShut, HasBlock, HasSlots, IsBare, for_block, for_slots, of_size, with_block, with_size, with_slots}
 use Rattle.cfs_medium.proofs.BlockSteps.{block_shows, same_core}
 use Rattle.cfs_medium.proofs.LiveLeft.{fitting-recovers, shown-recovers}
 use Rattle.cfs_medium.proofs.SlotSteps.{differs-none, slots_show}
@@ -43,24 +36,25 @@ size-fits ino core now world seen remains shows differs may size = record {
 
 pub sizes-set : SizesMayBeSet
 sizes-set ino n word core now world new asked_old asked_new shows differs good shape room fits reads
-    moments =
-    (among tt
-    (record {
-      tick = λ step asked seen numbers some own.
-          of_size (stepped step seen) (inr (step, refl))
-          (record { some = some; own = rw numbers own });
-      look = λ asked seen numbers some own.
-          of_size seen (inl refl) (record { some = some; own = rw numbers own });
-      gives = gives;
-    }) moments,
-    record {
-      shape = shape;
-      sizes = λ words image. fits words (at_end moments words image);
-      size_now = reads;
-      slots = λ place. rw (differs.held place) (shows.slots place);
-      blocks = λ block within. rw (differs.tags, differs.loose, differs.bytes)
-          (shows.blocks block within);
-    })
+    moments = (
+      among tt
+          (record {
+            tick = λ step asked seen numbers some own.
+                of_size (stepped step seen) (inr (step, refl))
+                (record { some = some; own = rw numbers own });
+            look = λ asked seen numbers some own.
+                of_size seen (inl refl) (record { some = some; own = rw numbers own });
+            gives = gives;
+          }) moments,
+      record {
+        shape = shape;
+        sizes = λ words image. fits words (at_end moments words image);
+        size_now = reads;
+        slots = λ place. rw (differs.held place) (shows.slots place);
+        blocks = λ block within. rw (differs.tags, differs.loose, differs.bytes)
+            (shows.blocks block within);
+      },
+    )
   where
     gives : (seen : Seen WordStep) →
         ((words : List ℕ) → IsImage seen.history words → IsSetFrom world.size 0 word words) →
@@ -86,16 +80,20 @@ shut-fits ino place core seens shut may_close slots images =
     }
 
 pub slots-come : SlotsMayCome
-slots-come ino n place core world seens asked shows shut comes good room may_close =
-    (record {
-      distinct = tt;
-      passed = record { asked = []; world = with_slots place seens world } ∷ [];
-      ends = refl;
-      asked = refl;
-      each = (shown-recovers ino n core (with_slots place seens world) good behind room,
-          for_slots place seens shut comes there,
-          shown-recovers ino n core world good shows room);
-    }, behind)
+slots-come ino n place core world seens asked shows shut comes good room may_close = (
+  record {
+    distinct = tt;
+    passed = record { asked = []; world = with_slots place seens world } ∷ [];
+    ends = refl;
+    asked = refl;
+    each = (
+      shown-recovers ino n core (with_slots place seens world) good behind room,
+      for_slots place seens shut comes there,
+      shown-recovers ino n core world good shows room,
+    );
+  },
+  behind,
+)
   where
     behind : Shows ino core (with_slots place seens world)
     behind = slots_show ino place core core world seens shows (differs-none place core) shows.shape
@@ -143,16 +141,20 @@ bare-shown ino block core here bare may_clear untagged = record {
         cc
 
 pub blocks-come : BlocksMayCome
-blocks-come ino n block core world here asked shows bare comes untagged good room may_clear =
-    (record {
-      distinct = tt;
-      passed = record { asked = []; world = with_block block here world } ∷ [];
-      ends = refl;
-      asked = refl;
-      each = (shown-recovers ino n core (with_block block here world) good behind room,
-          for_block block here bare comes there,
-          shown-recovers ino n core world good shows room);
-    }, behind)
+blocks-come ino n block core world here asked shows bare comes untagged good room may_clear = (
+  record {
+    distinct = tt;
+    passed = record { asked = []; world = with_block block here world } ∷ [];
+    ends = refl;
+    asked = refl;
+    each = (
+      shown-recovers ino n core (with_block block here world) good behind room,
+      for_block block here bare comes there,
+      shown-recovers ino n core world good shows room,
+    );
+  },
+  behind,
+)
   where
     behind : Shows ino core (with_block block here world)
     behind = block_shows ino block core core world here shows (same_core block core) shows.shape

@@ -1,5 +1,5 @@
 -- Events of a core as calls on the slots of one request.
-use Rattle.std.proofs.Common.{◌≡◌, ◌≢◌, ◌⊎◌, inl, inr, ℕ, zero, suc, ◌+◌, ◌-◌, ◌<◌, ◌≤◌, ◌==◌, Bool, true, false, not, ◌&&◌, if◌then◌else◌, Result, Ok, Err, OnOk, OnErr, Option, Some, None, List, [], ◌∷◌, ◌++◌, length, drop, get_or, slice_get, is_none, arith, refl, sym, ap, subst, ◌∙◌, length-append}
+use Rattle.std.proofs.Common.{◌≡◌, ◌≢◌, inl, inr, ℕ, zero, suc, ◌+◌, ◌-◌, ◌<◌, ◌≤◌, ◌==◌, Bool, true, false, not, if◌then◌else◌, Ok, Err, OnOk, OnErr, Option, Some, None, List, [], ◌∷◌, ◌++◌, length, get_or, slice_get, is_none, arith, refl, sym, ap, subst, ◌∙◌, length-append}
 use Rattle.std.proofs.Math.ListN.{set}
 use Rattle.std.specs.Option.{option_map}
 use Rattle.std.proofs.lemmas.Bool.{cases_lt}
@@ -9,30 +9,28 @@ use Rattle.cfs_file.specs.declared.entry.Entry.{Entry}
 use Rattle.cfs_file.specs.declared.request.Request.{Request}
 use Rattle.cfs_core.specs.declared.doubt.Doubt.{Doubt}
 use Rattle.cfs_core.specs.declared.event.Event.TheVariants as events
-use Rattle.cfs_core.specs.declared.flag.Flag.{Flag}
 use Rattle.cfs_core.specs.declared.flag.Flag.TheVariants.{Off, On, Unsure}
 use Rattle.cfs_core.specs.declared.state.State.{State}
 use Rattle.cfs_core.specs.declared.state.State.TheVariants.{Closed}
 use Rattle.cfs_core.specs.declared.track.Track.{Track}
 use Rattle.cfs_core.specs.declared.inode_core.Core.{Core}
 use Rattle.cfs_core.specs.After.{after, change_track, marked, retired, with_track}
-use Rattle.cfs_core.specs.Good.{IsGood}
-use Rattle.cfs_core.specs.May.{is_in_phase, is_next, may, may_admit, may_mark, may_skip, span_now}
+use Rattle.cfs_core.specs.May.{is_in_phase, is_next, may_admit, may_mark, may_skip, span_now}
 use Rattle.cfs_core.specs.Medium.{placed}
 use Rattle.cfs_core.specs.Words.{blank, can_be, is_noop, is_waiting, track}
 use Rattle.cfs_core.proofs.Legal.{both, same_number}
 use Rattle.cfs_core.proofs.Marks.{track_beside}
 use Rattle.cfs_core.proofs.Order.{same_or_not, some_place, track_is}
 use Rattle.cfs_pmem.specs.declared.trace.Asked.{Asked}
-use Rattle.cfs_pmem.specs.Images.{Seen, WordStep, IsImage, IsSetFrom, IsSure, words_of, wrote, kept}
+use Rattle.cfs_pmem.specs.Images.{Seen, WordStep, IsImage, IsSetFrom, words_of}
 use Rattle.cfs_pmem.specs.Objects.{IsEachImage}
 use Rattle.cfs_pmem.proofs.ImageLemmas.{now_is_image}
 use Rattle.cfs_pmem.specs.WordOps.{SetsWord}
 use Rattle.cfs_slot.specs.Words.{gate_of, ino_of, mark_of, request_of}
 use Rattle.cfs_medium.specs.Differs.{DiffersAt}
-use Rattle.cfs_medium.specs.Shows.{DoubtFits, HasShape, Holding, Recovers, Shows, SlotFits, SlotsShown, doubted, entry_of, holding, is_gated, logged_at}
-use Rattle.cfs_medium.specs.SlotEvents.{AdmissionsShow, Answer, AreStagedAs, IsBesideDoubt, IsStagedAs, Leads, MarksShow, SettlesShow, SkipsShow}
-use Rattle.cfs_medium.specs.World.{World, head_words}
+use Rattle.cfs_medium.specs.Shows.{HasShape, Holding, Recovers, Shows, SlotFits, SlotsShown, doubted, entry_of, holding, is_gated, logged_at}
+use Rattle.cfs_medium.specs.SlotEvents.{AdmissionsShow, Answer, IsBesideDoubt, IsStagedAs, MarksShow, SettlesShow, SkipsShow}
+use Rattle.cfs_medium.specs.World.{World}
 use Rattle.cfs_medium.specs.WorldCalls.{AreShut, WorldMoments, with_slots}
 use Rattle.cfs_medium.proofs.Left.{equal_test}
 use Rattle.cfs_medium.proofs.SlotSteps.{gates-close, heads-set, shut-show, slots_show}
@@ -40,7 +38,7 @@ use Rattle.cfs_medium.proofs.Worlds.{at_place}
 
 -- ---- cores with another track
 
-holding-same : (core now : Core) (doubt : Option Doubt) (at : ℕ) →
+pub holding-same : (core now : Core) (doubt : Option Doubt) (at : ℕ) →
     logged_at now.log (track now.tracks at) at ≡ logged_at core.log (track core.tracks at) at →
     holding now doubt at ≡ holding core doubt at
 holding-same core now None at same = same
@@ -143,10 +141,10 @@ closed-shows ino place core now world seens shows shut differs shape off =
 pub skips-show : SkipsShow
 skips-show ino n place core world head new tails obeys result asked_old asked_new good shows
     allowed beside unsure room here sets = record {
-  moments = all.0;
-  ok = by result sets;
-  err = by_err result;
-}
+      moments = all.0;
+      ok = by result sets;
+      err = by_err result;
+    }
   where
     held : holding core core.doubt place ≡ logged_at core.log (track core.tracks place) place
     held = holding-logged core core.doubt place beside
@@ -186,10 +184,10 @@ skips-show ino n place core world head new tails obeys result asked_old asked_ne
 pub settles-show : SettlesShow
 settles-show ino n core doubt world head new tails obeys result asked_old asked_new good shows
     is unsure room here sets = record {
-  moments = all.0;
-  ok = by result sets;
-  err = by_err result;
-}
+      moments = all.0;
+      ok = by result sets;
+      err = by_err result;
+    }
   where
     place : ℕ
     place = doubt.entry.place
@@ -305,10 +303,10 @@ set_marked-on ino place held now words tails fits gates long mark request =
 pub marks-show : MarksShow
 marks-show ino n place by core world head new tails obeys result asked_old asked_new good shows allowed
     beside room here long sets = record {
-  moments = all.0;
-  ok = ended result sets;
-  err = failed result;
-}
+      moments = all.0;
+      ok = ended result sets;
+      err = failed result;
+    }
   where
     tried : Core
     tried = after core (events.Mark place by false)
@@ -483,10 +481,10 @@ none_is (Some d) h = cc
 pub admissions-show : AdmissionsShow
 admissions-show ino n grant entry core world head new tails obeys result asked_old asked_new good shows
     allowed room here long staged sets = record {
-  moments = all.0;
-  ok = ended result sets;
-  err = failed result;
-}
+      moments = all.0;
+      ok = ended result sets;
+      err = failed result;
+    }
   where
     tried : Core
     tried = after core (events.Admit entry grant false)
@@ -592,16 +590,21 @@ admissions-show ino n grant entry core world head new tails obeys result asked_o
             logged_at kept_core.log (track kept_core.tracks at) at
             ≡ logged_at core.log (track core.tracks at) at
         logged-other at other =
-            rw (entry-other core.log entry at other,
-            track-other core.tracks (change_track grant (span_now core entry.request)) at
-            (λ same. other (omega (arith, same, shows.shape.tracks)))) refl
+            rw (
+              entry-other core.log entry at other,
+              track-other core.tracks (change_track grant (span_now core entry.request)) at
+                  (λ same. other (omega (arith, same, shows.shape.tracks))),
+            ) refl
 
     kept_shape : HasShape kept_core
     kept_shape = record {
       tags = shows.shape.tags;
-      tracks = omega (arith, shows.shape.tracks,
-          length-append core.tracks (change_track grant (span_now core entry.request) ∷ []),
-          length-append core.log (entry ∷ []));
+      tracks = omega (
+        arith,
+        shows.shape.tracks,
+        length-append core.tracks (change_track grant (span_now core entry.request) ∷ []),
+        length-append core.log (entry ∷ []),
+      );
       doubt = λ d is. let none : None ≡ Some d = sym settled ∙ is in cc;
       loose = shows.shape.loose;
     }

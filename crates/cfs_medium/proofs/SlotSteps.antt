@@ -1,25 +1,17 @@
 -- Steps on the slots at one number: what is left at each moment, and what the world shows behind them.
-use Rattle.std.proofs.Common.{◌≡◌, ◌≢◌, ◌⊎◌, inl, inr, ℕ, zero, ◌+◌, ◌<◌, ◌≤◌, ◌==◌, Bool, true, false, not, Result, OnOk, OnErr, Ok, Err, List, [], ◌∷◌, length, drop, get_or, arith, refl, sym, ap, subst, ◌∙◌}
+use Rattle.std.proofs.Common.{◌≡◌, inl, inr, ℕ, false, List, [], ◌∷◌, refl, sym, subst, ◌∙◌}
 use Rattle.std.proofs.Math.ListN.{set}
-use Rattle.std.proofs.lemmas.List.{get_or-set_same, get_or-set_other}
-use Rattle.cfs_file.specs.declared.sizes.TheConstants.{FILE_BLOCKS}
-use Rattle.cfs_core.specs.declared.flag.Flag.{Flag}
-use Rattle.cfs_core.specs.declared.flag.Flag.TheVariants.{Off, On, Unsure}
+use Rattle.cfs_core.specs.declared.flag.Flag.TheVariants.{Unsure}
 use Rattle.cfs_core.specs.declared.inode_core.Core.{Core}
-use Rattle.cfs_core.specs.Words.{can_be}
-use Rattle.cfs_core.specs.Good.{IsGood}
 use Rattle.cfs_core.proofs.Order.{same_or_not}
-use Rattle.cfs_pmem.specs.declared.trace.Asked.{Asked}
-use Rattle.cfs_pmem.specs.Images.{Seen, WordStep, IsImage, IsSetFrom, words_of}
-use Rattle.cfs_pmem.specs.Moments.{Moments}
+use Rattle.cfs_pmem.specs.Images.{Seen, WordStep, IsImage, IsSetFrom}
 use Rattle.cfs_pmem.specs.Objects.{IsEachImage}
 use Rattle.cfs_pmem.proofs.MomentLemmas.{at_end}
-use Rattle.cfs_slot.specs.Words.{gate_of}
 use Rattle.cfs_medium.specs.Differs.{DiffersAt}
 use Rattle.cfs_medium.specs.Laws.{GatesMayClose, HeadsMayBeSet, ShutSlotsShow}
-use Rattle.cfs_medium.specs.Shows.{HasShape, Holding, Recovers, RemainsFit, Shows, SlotFits, SlotsShown, holding, is_gated}
+use Rattle.cfs_medium.specs.Shows.{HasShape, Recovers, RemainsFit, Shows, SlotFits, SlotsShown, holding, is_gated}
 use Rattle.cfs_medium.specs.World.{MayRemain, Remains, World, head_words}
-use Rattle.cfs_medium.specs.WorldCalls.{AreShut, WorldMoments, with_slots}
+use Rattle.cfs_medium.specs.WorldCalls.{WorldMoments, with_slots}
 use Rattle.cfs_medium.proofs.LiveLeft.{fitting-recovers}
 use Rattle.cfs_medium.proofs.Worlds.{at_other, at_place, head_moments, same_world}
 
@@ -84,11 +76,12 @@ parts head tails P F (image ∷ rest) each fits h = fits image rest (each image 
 
 pub heads-set : HeadsMayBeSet
 heads-set ino n place at word core now world head new tails asked_old asked_new shows here differs
-    good shape room fits moments =
-    (subst (λ w. WorldMoments (Recovers ino n now) asked_old w asked_new
-    (with_slots place (new ∷ tails) world)) (same_world place (head ∷ tails) world here)
-    (head_moments place tails world (IsSetFrom head at word) (Recovers ino n now) gives moments),
-    slots_show ino place core now world (new ∷ tails) shows differs shape shown)
+    good shape room fits moments = (
+      subst (λ w. WorldMoments (Recovers ino n now) asked_old w asked_new
+          (with_slots place (new ∷ tails) world)) (same_world place (head ∷ tails) world here)
+          (head_moments place tails world (IsSetFrom head at word) (Recovers ino n now) gives moments),
+      slots_show ino place core now world (new ∷ tails) shows differs shape shown,
+    )
   where
     gives : (seen : Seen WordStep) →
         ((image : List ℕ) → IsImage seen.history image → IsSetFrom head at word image) →

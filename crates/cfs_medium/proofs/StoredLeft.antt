@@ -1,20 +1,18 @@
 -- What fits a core stores what its image stores.
-use Rattle.std.proofs.Common.{◌≡◌, ◌⊎◌, inl, inr, ℕ, ◌+◌, ◌*◌, ◌/◌, ◌%◌, ◌<◌, ◌≤◌, Bool, true, false, if◌then◌else◌, Some, None, List, [], length, map, get_or, arith, refl, sym, ap, subst, ◌∙◌}
-use Rattle.std.specs.List.{Contains, range_with_len}
+use Rattle.std.proofs.Common.{◌≡◌, inl, inr, ℕ, ◌+◌, ◌*◌, ◌/◌, ◌%◌, ◌<◌, ◌≤◌, Bool, true, false, None, List, [], length, map, get_or, arith, refl, sym, ap, subst, ◌∙◌}
+use Rattle.std.specs.List.{range_with_len}
 use Rattle.std.proofs.lemmas.Bool.{cases_lt}
-use Rattle.std.proofs.lemmas.Bool.Decides.{nat_tests}
 use Rattle.std.proofs.lemmas.List.{get_or_past}
 use Rattle.std.proofs.lemmas.List.FromFn.{get_or-map-range_with_len, length-map-range_with_len}
-use Rattle.cfs_file.specs.declared.request.Request.{Request}
 use Rattle.cfs_file.specs.declared.sizes.TheConstants.{BLOCK_LEN, FILE_BLOCKS}
 use Rattle.cfs_core.specs.declared.inode_core.Core.{Core}
 use Rattle.cfs_core.specs.Medium.{is_loose, stored}
 use Rattle.cfs_core.proofs.Legal.{same_number}
 use Rattle.cfs_block.specs.BlockImages.{Content}
-use Rattle.cfs_medium.specs.Store.{Store, entry_at, tag_of}
-use Rattle.cfs_medium.specs.Depicts.{Depicts, IsFor, content_at, entries_of}
+use Rattle.cfs_medium.specs.Store.{Store, tag_of}
+use Rattle.cfs_medium.specs.Depicts.{Depicts, IsFor, content_at}
 use Rattle.cfs_medium.specs.World.{Remains, stored_of}
-use Rattle.cfs_medium.specs.Shows.{HasShape, RemainsFit, is_for}
+use Rattle.cfs_medium.specs.Shows.{HasShape, RemainsFit}
 use Rattle.cfs_medium.proofs.Blocks.{stored-same}
 use Rattle.cfs_medium.proofs.Has.{has-contained}
 use Rattle.cfs_medium.proofs.Left.{byte_left, is_set_at, left, tag-left, tags_left}
@@ -87,8 +85,12 @@ byte-left ino core remains shape fits block k within below set =
           set k below firm
           ∙ (get_or_past core.bytes (BLOCK_LEN * block + k) 0 past
           ∙ sym (get_or_past (left ino core remains).bytes (BLOCK_LEN * block + k) 0
-          (omega (arith, past, length-map-range_with_len (byte_left ino core remains) 0
-          (length core.bytes)))))
+          (omega (
+            arith,
+            past,
+            length-map-range_with_len (byte_left ino core remains) 0
+                (length core.bytes),
+          ))))
     ]
   where
     block_is : (BLOCK_LEN * block + k) / BLOCK_LEN ≡ block
@@ -116,8 +118,11 @@ depicts-left ino core remains shape fits = record {
   size_is = refl;
   tags_are =
       length-map-range_with_len (is_set_at ino remains) 0 (length core.tags) ∙ shape.tags;
-  tagged = λ block within bit. (block, tagged block within
-      (sym (tag-left ino core remains block (omega (arith, shape.tags))) ∙ bit));
+  tagged = λ block within bit. (
+    block,
+    tagged block within
+        (sym (tag-left ino core remains block (omega (arith, shape.tags))) ∙ bit),
+  );
   is_set = λ at block within tagged.
       let own = for-own ino core remains shape fits at block tagged in
       tag-left ino core remains block (omega (arith, shape.tags))

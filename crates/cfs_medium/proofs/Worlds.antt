@@ -1,6 +1,5 @@
 -- Worlds with other slots at one number.
-use Rattle.std.proofs.Common.{◌≡◌, ◌≢◌, ◌⊎◌, inl, inr, ℕ, zero, ◌<◌, ◌==◌, Bool, true, false, if◌then◌else◌, List, [], ◌∷◌, length, get_or, arith, refl, sym, ap, subst, ◌∙◌}
-use Rattle.std.proofs.Math.ListN.{set}
+use Rattle.std.proofs.Common.{◌≡◌, ◌≢◌, inl, inr, ℕ, ◌<◌, ◌==◌, Bool, true, false, if◌then◌else◌, List, ◌∷◌, length, arith, refl, sym, ap, ◌∙◌}
 use Rattle.std.proofs.Math.Path.{fun_ext}
 use Rattle.std.proofs.lemmas.Bool.Decides.{nat_tests}
 use Rattle.cfs_core.proofs.Legal.{same_number}
@@ -8,8 +7,8 @@ use Rattle.cfs_pmem.specs.declared.trace.Asked.{Asked}
 use Rattle.cfs_pmem.specs.Asks.{AreStepsOn}
 use Rattle.cfs_pmem.specs.Images.{Seen, WordStep, IsImage, devices_of, stepped}
 use Rattle.cfs_pmem.specs.Moments.{Moments}
-use Rattle.cfs_pmem.specs.Objects.{IsBehind, IsEachImage}
-use Rattle.cfs_pmem.proofs.AllMomentLemmas.{Fits, among}
+use Rattle.cfs_pmem.specs.Objects.{IsBehind}
+use Rattle.cfs_pmem.proofs.AllMomentLemmas.{among}
 use Rattle.cfs_medium.specs.World.{MayRemain, Remains, World}
 use Rattle.cfs_medium.specs.WorldCalls.{HasSlots, IsWorldCall, WorldMoments, of_slot, with_slots}
 use Rattle.cfs_medium.proofs.Left.{equal_test}

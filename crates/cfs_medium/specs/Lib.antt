@@ -8,3 +8,4 @@ pub mod Differs
 pub mod BlockCalls
 pub mod Laws
 pub mod SlotEvents
+pub mod BlockEvents

@@ -1,5 +1,5 @@
 -- When the devices of an inode show a core: each image of each of them fits it.
-use Rattle.std.specs.Prelude.{ℕ, ◌+◌, ◌-◌, ◌*◌, ◌≤◌, ◌<◌, ◌≡◌, ◌==◌, Bool, true, false, not, Option, Some, None, List, [], ◌++◌, length, drop, get_or, slice_get, if◌then◌else◌}
+use Rattle.std.specs.Prelude.{ℕ, ◌+◌, ◌-◌, ◌*◌, ◌≤◌, ◌<◌, ◌≡◌, ◌==◌, Bool, true, false, not, Option, Some, None, List, ◌++◌, length, drop, get_or, slice_get, if◌then◌else◌}
 use Rattle.std.specs.Option.{option_map}
 use Rattle.cfs_file.specs.declared.entry.Entry.{Entry}
 use Rattle.cfs_file.specs.declared.request.Request.{Request}
@@ -7,7 +7,7 @@ use Rattle.cfs_file.specs.Log.{file_of}
 use Rattle.cfs_file.specs.declared.sizes.TheConstants.{BLOCK_LEN, FILE_BLOCKS}
 use Rattle.cfs_core.specs.declared.doubt.Doubt.{Doubt}
 use Rattle.cfs_core.specs.declared.flag.Flag.{Flag}
-use Rattle.cfs_core.specs.declared.flag.Flag.TheVariants.{Off, On}
+use Rattle.cfs_core.specs.declared.flag.Flag.TheVariants.{Off}
 use Rattle.cfs_core.specs.declared.stretch.Stretch.{Stretch}
 use Rattle.cfs_core.specs.declared.track.Track.{Track}
 use Rattle.cfs_core.specs.declared.inode_core.Core.{Core}

@@ -1,10 +1,10 @@
 -- Events of a core as calls on the slots of one request.
-use Rattle.std.specs.Prelude.{ℕ, ◌+◌, ◌≤◌, ◌<◌, ◌≡◌, ◌≢◌, Bool, true, false, Some, None, List, [], ◌∷◌, length, Result, OnOk, OnErr}
+use Rattle.std.specs.Prelude.{ℕ, ◌+◌, ◌≤◌, ◌<◌, ◌≡◌, ◌≢◌, Bool, true, false, Some, List, ◌∷◌, length, Result, OnOk, OnErr}
 use Rattle.cfs_file.specs.declared.entry.Entry.{Entry}
 use Rattle.cfs_file.specs.declared.request.Request.{Request}
 use Rattle.cfs_core.specs.declared.doubt.Doubt.{Doubt}
 use Rattle.cfs_core.specs.declared.event.Event.TheVariants as events
-use Rattle.cfs_core.specs.declared.flag.Flag.TheVariants.{Off, Unsure}
+use Rattle.cfs_core.specs.declared.flag.Flag.TheVariants.{Unsure}
 use Rattle.cfs_core.specs.declared.inode_core.Core.{Core}
 use Rattle.cfs_core.specs.After.{after}
 use Rattle.cfs_core.specs.Good.{IsGood}

@@ -1,5 +1,5 @@
 -- The devices of one inode, and what a crash leaves of them.
-use Rattle.std.specs.Prelude.{ℕ, ◌==◌, ◌≡◌, Bool, Option, Some, None, List, [], map, drop, get_or}
+use Rattle.std.specs.Prelude.{ℕ, ◌≡◌, Option, Some, None, List, [], map, drop, get_or}
 use Rattle.std.specs.List.{filter_map, range_with_len}
 use Rattle.cfs_file.specs.declared.request.Request.{Request}
 use Rattle.cfs_file.specs.declared.sizes.TheConstants.{FILE_BLOCKS}

@@ -1,5 +1,5 @@
 -- Calls on the devices of one inode.
-use Rattle.std.specs.Prelude.{ℕ, ◌<◌, ◌≡◌, ◌≢◌, ◌==◌, false, Option, Some, List, [], ◌∷◌, length, if◌then◌else◌}
+use Rattle.std.specs.Prelude.{ℕ, ◌<◌, ◌≡◌, ◌≢◌, ◌==◌, false, Option, Some, List, [], length, if◌then◌else◌}
 use Rattle.std.proofs.Math.ListN.{set}
 use Rattle.cfs_pmem.specs.declared.trace.Asked.{Asked}
 use Rattle.cfs_pmem.specs.AllMoments.{AllMoments}

@@ -9,7 +9,7 @@
 mod recovery;
 
 ghost use Rattle.cfs_medium.specs.Laws.{BlocksMayChange, BlocksMayCome, BlocksOfOthersStay, DepictedStoresRecover, EmptyStoresDepict, FittingRemainsRecover, GatesMayClose, HeadsMayBeSet, RunsAreRecovered, ShownWorldsRecover, ShutSlotsShow, SizesMayBeSet, SlotsMayCome, SlotsOfOthersStay, TagsAreApart};
-
+ghost use Rattle.cfs_medium.specs.BlockEvents.{TrimsShow};
 ghost use Rattle.cfs_medium.specs.SlotEvents.{AdmissionsShow, MarksShow, SettlesShow, SkipsShow};
 
 pub use recovery::{BlockFound, recover};
@@ -107,6 +107,11 @@ pub fn admissions_show()
 /// A waiting entry may be marked, and the devices show it marked, or that it may be.
 pub fn marks_show()
     ensures { MarksShow }
+{}
+
+/// A block past the stored size may be given up, and the devices show it free, or that it may be.
+pub fn trims_show()
+    ensures { TrimsShow }
 {}
 
 /// A store that has nothing of an inode depicts the core of an empty file.
