@@ -1,5 +1,5 @@
 -- Slots and parts that are moved from one list to another.
-use Rattle.std.proofs.Common.{ℕ, suc, ◌+◌, ◌/◌, ◌<◌, ◌≡◌, ◌∙◌, List, [], ◌∷◌, ◌++◌, length, map, reverse, refl, sym, ap, arith, append_assoc, length-append}
+use Rattle.std.proofs.Common.{ℕ, ◌+◌, ◌/◌, ◌<◌, ◌≡◌, ◌∙◌, List, [], ◌∷◌, ◌++◌, length, map, reverse, sym, ap, arith, append_assoc, length-append}
 use Rattle.std.proofs.lemmas.List.{length-map, length-reverse, map-append, reverse-append}
 
 -- the last one was taken

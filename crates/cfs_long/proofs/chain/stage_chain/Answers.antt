@@ -1,7 +1,6 @@
-use Rattle.std.proofs.Common.{ℕ, ◌+◌, ◌≡◌, ◌∙◌, Bool, true, false, List, [], ◌∷◌, ◌++◌, length, drop, is_ok, map, reverse, refl, sym, ap, subst, arith, rules}
+use Rattle.std.proofs.Common.{◌+◌, ◌≡◌, ◌∙◌, Bool, true, false, List, [], ◌∷◌, ◌++◌, length, drop, is_ok, map, reverse, refl, sym, ap, subst, arith, rules}
 use Rattle.std.proofs.lemmas.List.{length-map, length-reverse}
 use Rattle.std.specs.Option.{option_to_list}
-use Rattle.cfs_pmem.specs.declared.trace.Asked.{Asked}
 use Rattle.cfs_vec.specs.Items.{items_of}
 use Rattle.cfs_slot.specs.declared.slot.Slot.{Slot}
 use Rattle.cfs_slot.specs.Regions.{devices_in, of_slots, slot_numbers}

@@ -1,8 +1,7 @@
-use Rattle.std.proofs.Common.{ℕ, ◌+◌, ◌-◌, ◌<◌, ◌≤◌, ◌≡◌, ◌∙◌, List, [], ◌∷◌, ◌++◌, length, take, drop, map, refl, ap, subst, arith, rules, length-drop}
-use Rattle.std.proofs.lemmas.List.{length-map, take_rest}
+use Rattle.std.proofs.Common.{ℕ, ◌+◌, ◌-◌, ◌<◌, ◌≤◌, ◌≡◌, ◌∙◌, List, ◌∷◌, ◌++◌, length, take, drop, refl, ap, subst, arith, rules, length-drop}
+use Rattle.std.proofs.lemmas.List.{take_rest}
 use Rattle.cfs_vec.specs.Items.{items_of}
 use Rattle.cfs_slot.specs.declared.slot.Slot.{Slot}
-use Rattle.cfs_slot.specs.declared.part.Part.{Part}
 use Rattle.cfs_slot.specs.Staging.{AreParts, IsLong, slots_for, staged_payload}
 use Rattle.cfs_slot.specs.Regions.{devices_in, of_parts, of_slots, words_in}
 use Rattle.cfs_slot.specs.Tails.{AreAbove}

@@ -1,4 +1,4 @@
-use Rattle.std.proofs.Common.{[], ◌∷◌, ap, refl}
+use Rattle.std.proofs.Common.{refl}
 use Rattle.cfs_long.proofs.ChainLemmas.{slot_err, slot_ok}
 use Rattle.cfs_long.proofs.ResultLemmas.{short_err, short_ok}
 use Rattle.cfs_long.proofs.chain.stage_short.Goals as goal

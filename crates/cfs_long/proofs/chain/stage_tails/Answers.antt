@@ -1,7 +1,6 @@
-use Rattle.std.proofs.Common.{ℕ, ◌+◌, ◌-◌, ◌/◌, ◌<◌, ◌≤◌, ◌≡◌, ◌∙◌, Bool, true, false, List, [], ◌∷◌, ◌++◌, length, take, drop, min, map, reverse, refl, sym, ap, subst, arith, length-append}
+use Rattle.std.proofs.Common.{ℕ, ◌<◌, ◌≡◌, ◌∙◌, true, false, List, [], ◌∷◌, ◌++◌, length, take, drop, map, reverse, refl, sym, ap, subst, arith, length-append}
 use Rattle.std.proofs.lemmas.List.{append-nil, drop_min, length-map, take_min}
 use Rattle.std.specs.Option.{option_to_list}
-use Rattle.cfs_pmem.specs.declared.trace.Asked.{Asked}
 use Rattle.cfs_vec.specs.Items.{items_of}
 use Rattle.cfs_slot.specs.declared.slot.Slot.{Slot}
 use Rattle.cfs_slot.specs.declared.part.Part.{Part}

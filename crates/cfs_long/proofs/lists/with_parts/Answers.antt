@@ -1,4 +1,4 @@
-use Rattle.std.proofs.Common.{◌+◌, ◌≤◌, ◌≡◌, ◌∙◌, ◌∷◌, [], ◌++◌, length, map, reverse, refl, sym, ap, arith, length-append}
+use Rattle.std.proofs.Common.{◌∙◌, ◌∷◌, [], ◌++◌, length, map, reverse, ap, arith, length-append}
 use Rattle.std.proofs.lemmas.List.{length-map, length-reverse, reverse-reverse}
 use Rattle.std.specs.Option.{option_to_list}
 use Rattle.cfs_vec.specs.Items.{items_of}

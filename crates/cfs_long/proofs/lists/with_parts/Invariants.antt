@@ -1,6 +1,6 @@
 use Rattle.std.proofs.Common.{◌+◌, ◌≤◌, ◌≡◌, ◌++◌, length, map, reverse}
 use Rattle.cfs_vec.specs.Items.{items_of}
-use Rattle.cfs_slot.specs.Regions.{of_part, of_parts, of_slot, of_slots}
+use Rattle.cfs_slot.specs.Regions.{of_part, of_parts, of_slots}
 use Rattle.cfs_long.proofs.lists.with_parts.Given as goal
 
 abbrev pub invariant-loop-part : goal.invariant-loop-part

@@ -1,9 +1,9 @@
-use Rattle.std.proofs.Common.{◌+◌, ◌≤◌, ◌≡◌, ◌∙◌, ◌∷◌, [], ◌++◌, length, map, reverse, refl, sym, ap, arith, length-append}
+use Rattle.std.proofs.Common.{◌∙◌, ◌∷◌, [], ◌++◌, length, map, reverse, refl, ap, arith, length-append}
 use Rattle.std.proofs.lemmas.List.{length-map}
 use Rattle.std.specs.Option.{option_to_list}
 use Rattle.cfs_vec.specs.Items.{items_of}
 use Rattle.cfs_slot.specs.declared.slot.Slot.{Slot}
-use Rattle.cfs_slot.specs.Regions.{of_slot, of_slots}
+use Rattle.cfs_slot.specs.Regions.{of_slot}
 use Rattle.cfs_slot.proofs.SlotsLemmas.{all_moved, one_moved}
 use Rattle.cfs_long.proofs.lists.with_slots.Goals as goal
 

@@ -1,5 +1,4 @@
 use Rattle.std.proofs.Common.{◌≡◌, Bool, true, false, inl, inr, refl}
-use Rattle.cfs_slot.specs.Staging.{IsLong, IsStageable}
 use Rattle.cfs_long.proofs.room.is_chained.Goals as goal
 
 both : (b : Bool) → b ≡ true → b ≡ false → ⊥
