@@ -1,5 +1,5 @@
 -- A call on one of the two copies, as a call on that among the selector and the copies.
-use Rattle.std.proofs.Common.{ℕ, suc, ◌+◌, ◌<◌, ◌≡◌, ◌∙◌, false, Result, List, [], ◌∷◌, length, map, get_or, refl, sym, ap, subst, arith}
+use Rattle.std.proofs.Common.{ℕ, suc, ◌<◌, ◌≡◌, ◌∙◌, false, Result, List, ◌∷◌, length, map, get_or, sym, ap, subst, arith}
 use Rattle.std.proofs.Math.ListN.{set}
 use Rattle.std.proofs.lemmas.List.{get_or-map, length-map, map-set}
 use Rattle.cfs_pmem.specs.declared.trace.Asked.{Asked}

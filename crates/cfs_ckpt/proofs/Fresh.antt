@@ -1,5 +1,5 @@
 -- A selector and two copies that nothing was written to yet.
-use Rattle.std.proofs.Common.{ℕ, zero, suc, ◌+◌, ◌<◌, ◌≡◌, ◌≢◌, ◌∙◌, List, [], ◌∷◌, length, map, inl, inr, refl, sym, ap, subst, arith}
+use Rattle.std.proofs.Common.{ℕ, zero, suc, ◌<◌, ◌≡◌, ◌≢◌, ◌∙◌, List, [], ◌∷◌, length, map, inl, inr, refl, sym, ap, subst, arith}
 use Rattle.cfs_pmem.specs.declared.mem_region.MemRegion.{MemRegion}
 use Rattle.cfs_pmem.specs.AllMoments.{AreApart}
 use Rattle.cfs_pmem.specs.Images.{Seen, WordStep, began, words_of}

@@ -1,10 +1,9 @@
 -- What a crash may load behind stores, store by store.
-use Rattle.std.proofs.Common.{◌≡◌, ◌⊎◌, ◌∙◌, Bool, true, false, List, [], ◌∷◌, inl, inr, refl, sym, ap, subst}
-use Rattle.cfs_pmem.specs.declared.trace.Asked.{Asked}
+use Rattle.std.proofs.Common.{◌≡◌, ◌⊎◌, ◌∙◌, Bool, true, false, List, [], ◌∷◌, inl, inr, refl, sym, subst}
 use Rattle.cfs_pmem.specs.Images.{Seen, WordStep}
 use Rattle.cfs_pmem.proofs.AllMomentLemmas.{all_at_end, all_weaker}
 use Rattle.cfs_ckpt.specs.Loads.{CanLoad, Loaded, LoadsOnly, loaded}
-use Rattle.cfs_ckpt.specs.History.{AreStores, CrashesInAStore, CrashesLoadStores, IsOneSince, Stored, asked_behind, seens_behind}
+use Rattle.cfs_ckpt.specs.History.{CrashesInAStore, CrashesLoadStores, seens_behind}
 
 either : (answer : Bool) → (answer ≡ true) ⊎ (answer ≡ false)
 either true = inl refl

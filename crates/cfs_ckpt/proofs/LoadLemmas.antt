@@ -1,13 +1,12 @@
 -- What images load while the selector is persisted, a copy is written, and the selector is set.
-use Rattle.std.proofs.Common.{ℕ, zero, suc, ◌+◌, ◌-◌, ◌*◌, ◌/◌, ◌%◌, ◌<◌, ◌≡◌, ◌≢◌, ◌⊎◌, ◌∙◌, false, List, [], ◌∷◌, length, get_or, inl, inr, refl, sym, ap, subst, arith}
+use Rattle.std.proofs.Common.{ℕ, zero, suc, ◌-◌, ◌/◌, ◌%◌, ◌<◌, ◌≡◌, ◌≢◌, ◌⊎◌, ◌∙◌, false, List, [], ◌∷◌, length, get_or, inl, inr, refl, sym, ap, subst, arith}
 use Rattle.std.proofs.Math.ListN.{set}
-use Rattle.std.proofs.lemmas.Bool.{cases_eq}
 use Rattle.std.proofs.lemmas.List.{get_or-set_other, get_or-set_same, length-set, set-get_or}
 use Rattle.cfs_dir.specs.Words.{table_in}
 use Rattle.cfs_pmem.specs.Images.{Seen, WordStep, words_of, IsImage, IsSetFrom, IsSure}
 use Rattle.cfs_pmem.specs.Objects.{seen_at, IsEachImage, IsImageBut}
 use Rattle.cfs_pmem.proofs.ImageLemmas.{now_is_image}
-use Rattle.cfs_ckpt.specs.Loads.{CanLoad, Loaded, LoadsOnly, loaded, selected, word_in}
+use Rattle.cfs_ckpt.specs.Loads.{CanLoad, LoadsOnly, loaded, selected, word_in}
 use Rattle.cfs_ckpt.specs.Selects.{Selects}
 use Rattle.cfs_ckpt.specs.Stores.{free_copy, word_for}
 

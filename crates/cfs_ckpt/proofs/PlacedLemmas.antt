@@ -1,5 +1,5 @@
 -- Operations on one region, as operations on one of several; and calls one after another.
-use Rattle.std.proofs.Common.{ℕ, ◌<◌, ◌≡◌, ◌∙◌, true, false, Result, Ok, Err, List, [], ◌∷◌, ◌++◌, length, map, drop, inl, inr, get_or, refl, sym, ap, subst, arith}
+use Rattle.std.proofs.Common.{ℕ, ◌<◌, ◌≡◌, ◌∙◌, true, false, Result, Ok, Err, List, [], ◌∷◌, ◌++◌, length, drop, inl, inr, get_or, refl, sym, ap, subst, arith}
 use Rattle.std.proofs.Math.ListN.{set}
 use Rattle.std.proofs.lemmas.Bool.{cases_eq}
 use Rattle.std.proofs.lemmas.List.{drop-map, get_or-map, get_or-set_other, get_or-set_same, length-map, map-set, set-get_or, set-set}

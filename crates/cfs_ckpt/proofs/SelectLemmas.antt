@@ -1,8 +1,8 @@
 -- The selector and the copies after one of them is another.
-use Rattle.std.proofs.Common.{ℕ, zero, suc, ◌+◌, ◌-◌, ◌%◌, ◌<◌, ◌≡◌, ◌≢◌, ◌⊎◌, ◌∙◌, Bool, false, IsTrue, Result, List, [], ◌∷◌, length, map, get_or, inl, inr, refl, sym, ap, subst, arith}
+use Rattle.std.proofs.Common.{ℕ, suc, ◌-◌, ◌%◌, ◌<◌, ◌≡◌, ◌≢◌, ◌⊎◌, ◌∙◌, Bool, false, IsTrue, Result, List, [], ◌∷◌, length, map, get_or, inl, inr, sym, ap, subst, arith}
 use Rattle.std.proofs.Math.ListN.{set}
 use Rattle.std.proofs.lemmas.Bool.{cases_eq}
-use Rattle.std.proofs.lemmas.List.{get_or-set_other, get_or-set_same, length-set, map-set, set-get_or}
+use Rattle.std.proofs.lemmas.List.{get_or-set_other, length-set, map-set, set-get_or}
 use Rattle.cfs_dir.specs.Words.{table_in}
 use Rattle.cfs_pmem.specs.declared.trace.Asked.{Asked}
 use Rattle.cfs_pmem.specs.AllMoments.{AreDistinct}

@@ -10,7 +10,7 @@ use Rattle.cfs_dir.proofs.Tables.{table_told}
 use Rattle.cfs_pmem.specs.declared.trace.Asked.{Asked}
 use Rattle.cfs_pmem.specs.Images.{Seen, WordStep, words_of, IsImage}
 use Rattle.cfs_pmem.specs.Objects.{MomentsOf, seen_at}
-use Rattle.cfs_pmem.specs.Operations.{AllDone, FrontDone, LastFails, after_all, last_refused}
+use Rattle.cfs_pmem.specs.Operations.{AllDone, FrontDone, LastFails, last_refused}
 use Rattle.cfs_pmem.specs.WordOps.{WordOp, persist, set_ops}
 use Rattle.cfs_pmem.proofs.AllMomentLemmas.{all_after, all_at_end, all_weaker}
 use Rattle.cfs_pmem.proofs.CallLemmas.{fails_behind, refused_behind}

@@ -1,5 +1,5 @@
 -- A table that is written row by row, and persisted.
-use Rattle.std.proofs.Common.{ℕ, zero, suc, ◌+◌, ◌-◌, ◌*◌, ◌<◌, ◌≤◌, ◌≡◌, ◌∙◌, Bool, true, false, IsTrue, Result, Ok, Err, List, [], ◌∷◌, ◌++◌, length, get_or, take, drop, Option, Some, None, refl, sym, ap, subst, arith, append_assoc}
+use Rattle.std.proofs.Common.{ℕ, zero, suc, ◌+◌, ◌-◌, ◌*◌, ◌<◌, ◌≤◌, ◌≡◌, ◌∙◌, Bool, true, false, IsTrue, Result, Ok, Err, List, [], ◌∷◌, ◌++◌, length, get_or, take, drop, Option, Some, None, refl, sym, ap, subst, arith}
 use Rattle.std.proofs.Math.ListN.{set}
 use Rattle.std.proofs.lemmas.List.{append-nil, drop_all, get_or-append-add, get_or-drop, get_or_append_left, length-append, length-set, take_all}
 use Rattle.cfs_dir.specs.declared.node.Node.{Node}
@@ -8,10 +8,10 @@ use Rattle.cfs_dir.specs.Words.{row_of, rows, table_words}
 use Rattle.cfs_pmem.specs.declared.trace.Asked.{Asked}
 use Rattle.cfs_pmem.specs.declared.trace.Asked.TheVariants.{Step}
 use Rattle.cfs_pmem.specs.Asks.{AsksSome}
-use Rattle.cfs_pmem.specs.Images.{Seen, WordStep, devices_of, words_of, wrote, failed, kept, patched, IsImage, IsSure}
+use Rattle.cfs_pmem.specs.Images.{Seen, WordStep, devices_of, words_of, wrote, failed, kept, patched, IsImage}
 use Rattle.cfs_pmem.specs.Moments.{Moments}
 use Rattle.cfs_pmem.specs.Operations.{AllDone, FrontDone, after_all, all_allowed}
-use Rattle.cfs_pmem.specs.WordOps.{WordOp, put, persist, word_asks, word_done, WordFails, puts, DoesWords, WritesWords}
+use Rattle.cfs_pmem.specs.WordOps.{put, persist, word_asks, word_done, WordFails, puts, WritesWords}
 use Rattle.cfs_pmem.proofs.CallLemmas.{after_all-append, done_more, done_none, fails_next, front_of, words_after}
 use Rattle.cfs_pmem.proofs.ImageLemmas.{sure_kept}
 use Rattle.cfs_pmem.proofs.MomentLemmas.{after, begun, extended, on_failure, on_persist, weaker}

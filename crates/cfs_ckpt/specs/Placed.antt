@@ -2,7 +2,6 @@
 use Rattle.std.specs.Prelude.{ℕ, ◌≡◌, List, map, Result}
 use Rattle.std.proofs.Math.ListN.{get_or, set}
 use Rattle.cfs_pmem.specs.declared.trace.Asked.{Asked}
-use Rattle.cfs_pmem.specs.Faults.{Rose}
 use Rattle.cfs_pmem.specs.Images.{Seen, WordStep}
 use Rattle.cfs_pmem.specs.Objects.{seen_at}
 use Rattle.cfs_pmem.specs.Operations.{Ask, Does}

@@ -1,5 +1,5 @@
 //! The checkpoint and its calls.
-ghost use Rattle.std.specs.Prelude.{◌≡◌, ◌∷◌, ◌+◌, ◌-◌, ◌*◌, ◌%◌, ◌<◌, ◌^◌, suc, true, false, map, IsTrue, OnOk, OnErr};
+ghost use Rattle.std.specs.Prelude.{◌≡◌, ◌∷◌, ◌<◌, ◌^◌, suc, true, false, map, IsTrue, OnOk, OnErr};
 ghost use Rattle.cfs_dir.specs.Tree.{IsTree};
 ghost use Rattle.cfs_dir.specs.Words.{table_in, table_words};
 ghost use Rattle.cfs_pmem.specs.Images.{words_of, IsImage, IsSure};

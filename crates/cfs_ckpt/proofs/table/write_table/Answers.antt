@@ -1,5 +1,5 @@
 use Rattle.std.specs.Prelude.{option_copied}
-use Rattle.std.proofs.Common.{◌≡◌, ◌∙◌, ◌+◌, ◌*◌, length, refl, subst, arith}
+use Rattle.std.proofs.Common.{◌≡◌, ◌∙◌, ◌+◌, ◌*◌, length, subst, arith}
 use Rattle.std.proofs.lemmas.Result.{err_from_is_err_and}
 use Rattle.cfs_dir.specs.Words.{table_words}
 use Rattle.cfs_ckpt.proofs.TableLemmas.{HasPut, length-table, length-words, put_first, put_row, row_same, table_at_first, table_at_persist, table_at_row, table_whole}

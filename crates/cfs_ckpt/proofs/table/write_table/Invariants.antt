@@ -1,5 +1,4 @@
 use Rattle.std.proofs.Common.{◌≡◌, ◌+◌, ◌*◌}
-use Rattle.cfs_dir.specs.Tree.{IsTree}
 use Rattle.cfs_dir.specs.Words.{table_words}
 use Rattle.cfs_ckpt.proofs.TableLemmas.{HasPut}
 use Rattle.cfs_ckpt.proofs.table.write_table.Given as goal

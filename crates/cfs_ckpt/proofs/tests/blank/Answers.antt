@@ -1,4 +1,4 @@
-use Rattle.std.proofs.Common.{◌≡◌, ◌∙◌, List, length, ℕ, ap}
+use Rattle.std.proofs.Common.{◌∙◌, List, length, ℕ, ap}
 use Rattle.std.proofs.lemmas.List.{length-replicate}
 use Rattle.cfs_ckpt.proofs.Fresh.{fresh_regions}
 use Rattle.cfs_ckpt.proofs.tests.blank.Goals as goal

@@ -1,5 +1,4 @@
-use Rattle.std.proofs.Common.{◌∷◌, map, refl, arith}
-use Rattle.cfs_pmem.specs.Images.{IsImage}
+use Rattle.std.proofs.Common.{◌∷◌, map, arith}
 use Rattle.cfs_pmem.proofs.AllMomentLemmas.{all_weaker}
 use Rattle.cfs_pmem.proofs.MomentLemmas.{begun, on_failure, on_persist}
 use Rattle.cfs_pmem.proofs.ObjectLemmas.{one_of}
