@@ -1,11 +1,13 @@
 -- By how many names a node stands below another.
-use Rattle.std.proofs.Common.{◌≡◌, ◌≢◌, ℕ, zero, suc, ◌+◌, ◌-◌, ◌<◌, List, Bool, true, false, not, cond, inl, inr, refl, sym, ◌∙◌, ap, subst, arith, add-one}
+use Rattle.std.proofs.Common.{◌≡◌, ◌≢◌, ℕ, zero, suc, ◌+◌, ◌-◌, ◌<◌, ◌≤◌, List, [], ◌∷◌, ◌||◌, Bool, true, false, not, cond, inl, inr, refl, sym, ◌∙◌, ap, subst, arith, add-one}
 use Rattle.std.specs.Prelude.{Option, Some, None, nat_eq}
 use Rattle.std.specs.Option.{option_and_then, option_map}
 use Rattle.std.proofs.lemmas.Bool.{cases_Bool, cond-true, cond-false, eq-eqb, ne_eqb, eqb-true, eqb-false}
 use Rattle.cfs_dir.specs.declared.node.Node.{Node}
 use Rattle.cfs_dir.specs.Namespace.{node_at, node_of, without}
-use Rattle.cfs_dir.specs.Rename.{names_below}
+use Rattle.std.specs.List.{list_any}
+use Rattle.cfs_dir.specs.Rename.{is_too_deep, names_below, node_is_too_deep}
+use Rattle.cfs_dir.specs.Table.{holds}
 use Rattle.cfs_dir.specs.Tree.{leads_to_root}
 use Rattle.cfs_dir.proofs.Members.{In, find-Some, find-None}
 use Rattle.cfs_dir.proofs.Depth.{leads-cases, leads-root, leads-step, leads-zero}
@@ -87,7 +89,7 @@ module _ (find : ℕ → Option Node) (top ino above names : ℕ)
 
 pub climbed-start : (o : Option ℕ) → o ≡ option_map (λ n. n + 0) o
 climbed-start None = refl
-climbed-start (Some n) = refl
+climbed-start (Some n) = let sum : n ≡ n + 0 = omega arith in ap (λ k. Some k) sum
 
 -- no node stands below one that has no child
 pub below-leaf : (most : ℕ) (nodes : List Node) (top ino : ℕ) → ((n : Node) → In nodes n → n.parent ≢ top) → ino ≢ top
@@ -133,21 +135,22 @@ module _ (nodes after : List Node) (top : ℕ) (kept : (ino : ℕ) (n : Node) �
       (leads-step steps after node (ap (λ i. node_of after i) same ∙ kept ino node ne found) h)
 
   -- a node that does not stand below it leads to the root as before
-  pub leads-apart : (more steps ino : ℕ) → names_below (more + steps) (node_of nodes) top ino ≡ None → leads_to_root steps nodes ino ≡ true
+  pub leads-apart : (most steps ino : ℕ) → steps ≤ most → names_below most (node_of nodes) top ino ≡ None → leads_to_root steps nodes ino ≡ true
       → leads_to_root steps after ino ≡ true
-  leads-apart more zero ino apart h = leads-root 0 after ino (leads-zero nodes ino h)
-  leads-apart more (suc steps) ino apart h = elim (cases_Bool (nat_eq ino 1)) [
+  leads-apart most zero ino le apart h = leads-root 0 after ino (leads-zero nodes ino h)
+  leads-apart zero (suc steps) ino le apart h = absurd (omega arith)
+  leads-apart (suc most) (suc steps) ino le apart h = elim (cases_Bool (nat_eq ino 1)) [
     | inl t ↦ leads-root (suc steps) after ino (eqb-true ino 1 t)
     | inr f ↦
         let w = leads-cases steps nodes ino h (eqb-false ino 1 f) in
         elim (cases_Bool (nat_eq ino top)) [
-          | inl t ↦ absurd (let own = below-own (suc (more + steps)) (node_of nodes) top ino (eqb-true ino top t) in cc)
+          | inl t ↦ absurd (let own = below-own (suc most) (node_of nodes) top ino (eqb-true ino top t) in cc)
           | inr g ↦
               let ne = eqb-false ino top g in
-              let above : one_more (names_below (more + steps) (node_of nodes) top w.0.parent) ≡ None =
-              sym (below-via (more + steps) (node_of nodes) top ino (Some w.0) ne w.1) ∙ apart in
-              leads_again steps ino w.0 ne w.1 (leads-apart more steps w.0.parent
-              (elim (names_below (more + steps) (node_of nodes) top w.0.parent) as (λ o. one_more o ≡ None → o ≡ None) [
+              let above : one_more (names_below most (node_of nodes) top w.0.parent) ≡ None =
+              sym (below-via most (node_of nodes) top ino (Some w.0) ne w.1) ∙ apart in
+              leads_again steps ino w.0 ne w.1 (leads-apart most steps w.0.parent (omega arith)
+              (elim (names_below most (node_of nodes) top w.0.parent) as (λ o. one_more o ≡ None → o ≡ None) [
                 | None ↦ λ e. refl
                 | Some n ↦ λ e. absurd (cc)
               ] above) w.2)
@@ -161,14 +164,16 @@ module _ (nodes after : List Node) (top : ℕ) (kept : (ino : ℕ) (n : Node) �
     | inl t ↦
         let e = eqb-true ino top t in
         let none : 0 ≡ names = let own = below-own 0 (node_of nodes) top ino e in cc in
-        subst (λ n. leads_to_root (steps + n) after ino ≡ true) none (subst (λ i. leads_to_root steps after i ≡ true) (sym e) h)
+        let sum : steps ≡ steps + names = omega arith in
+        subst (λ n. leads_to_root n after ino ≡ true) sum (subst (λ i. leads_to_root steps after i ≡ true) (sym e) h)
     | inr f ↦ absurd (let zeroed = below-zero (node_of nodes) top ino (eqb-false ino top f) in cc)
   ]
   leads-below (suc most) names steps ino below h = elim (cases_Bool (nat_eq ino top)) [
     | inl t ↦
         let e = eqb-true ino top t in
         let none : 0 ≡ names = let own = below-own (suc most) (node_of nodes) top ino e in cc in
-        subst (λ n. leads_to_root (steps + n) after ino ≡ true) none (subst (λ i. leads_to_root steps after i ≡ true) (sym e) h)
+        let sum : steps ≡ steps + names = omega arith in
+        subst (λ n. leads_to_root n after ino ≡ true) sum (subst (λ i. leads_to_root steps after i ≡ true) (sym e) h)
     | inr f ↦
         let ne = eqb-false ino top f in
         elim (node_of nodes ino) as (λ o. node_of nodes ino ≡ o → leads_to_root (steps + names) after ino ≡ true) [
@@ -187,3 +192,11 @@ module _ (nodes after : List Node) (top : ℕ) (kept : (ino : ℕ) (n : Node) �
               ] refl above
         ] refl
   ]
+
+pub deep-same : (find other : ℕ → Option Node) → ((ino : ℕ) → find ino ≡ other ino) → (top names : ℕ) (slots : List (Option Node))
+    → list_any (holds (node_is_too_deep find top names)) slots ≡ list_any (holds (node_is_too_deep other top names)) slots
+deep-same find other same top names [] = refl
+deep-same find other same top names (None ∷ slots) = deep-same find other same top names slots
+deep-same find other same top names (Some node ∷ slots) =
+    ap (λ below. is_too_deep names below || list_any (holds (node_is_too_deep find top names)) slots) (below-same find other same 16 top node.ino)
+    ∙ ap (λ rest. node_is_too_deep other top names node || rest) (deep-same find other same top names slots)

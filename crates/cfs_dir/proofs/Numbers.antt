@@ -1,7 +1,8 @@
 -- The nodes by number after one is put at its record or taken out.
 use Rattle.std.proofs.Common.{◌≡◌, ◌≢◌, ℕ, zero, suc, ◌+◌, ◌<◌, List, [], ◌∷◌, length, map, get_or, ◌||◌, cond, ◌⊎◌, inl, inr, refl, sym, ◌∙◌, ap, subst, arith}
 use Rattle.std.proofs.Math.ListN.{set, length-set}
-use Rattle.std.specs.Prelude.{Bool, Option, Some, None, IsSomeAnd, replicate, nat_eq, slice_get}
+use Rattle.std.specs.Result.{IsOk}
+use Rattle.std.specs.Prelude.{Bool, Result, Ok, Err, IfOk, OnOk, OnErr, Option, Some, None, IsSomeAnd, replicate, nat_eq, slice_get}
 use Rattle.std.specs.Option.{option_and_then}
 use Rattle.std.specs.HashMap.{get}
 use Rattle.std.specs.Map.{lookup}
@@ -303,6 +304,17 @@ set-set [] i one other = refl
 set-set (x ∷ xs) zero one other = refl
 set-set (x ∷ xs) (suc i) one other = ap (λ ys. x ∷ ys) (set-set xs i one other)
 
+-- a call that a fact rules out has not failed
+pub ok_unless : {T E : Type 0} (P : Type 0) (result : Result T E) → OnErr result P → (P → ⊥) → IsOk result
+ok_unless P (Ok value) h never = refl
+ok_unless P (Err refusal) h never = absurd (never h)
+
+pub on_ok : {T E : Type 0} (P : Type 0) (result : Result T E) (value : T) → result ≡ Ok value → OnOk result P → P
+on_ok P result value e h = subst (λ r. OnOk r P) e h
+
+pub if_ok : {T E : Type 0} (P : T → Type 0) (result : Result T E) (value : T) → result ≡ Ok value → IfOk result P → P value
+if_ok P result value e h = subst (λ r. IfOk r P) e h
+
 -- a node is put in place of the one of its record, which has its number
 module _ (old new : NodeMap) (numbers : List (Option ℕ)) (slots : List (Option Node)) (node was : Node) (h : IsNumbered old numbers)
     (seen : slots_of old numbers ≡ slots) (stands : option_and_then (λ slot. slot) (slice_get slots node.rec) ≡ Some was)
@@ -317,11 +329,11 @@ module _ (old new : NodeMap) (numbers : List (Option ℕ)) (slots : List (Option
   pub replaced-found : get nat_eq old node.ino ≡ Some was
   replaced-found = ap (λ n. get nat_eq old n) (sym same) ∙ replaced-at.2
 
-  lt : node.rec < 256
-  lt = let size = h.size in let within = replaced-at.1 in omega arith
-
   absent : IsAbsent node.ino (set numbers node.rec None)
-  absent = IsAbsent-own old numbers slots node.rec h seen old node.ino None lt at (λ number. refl)
+  absent =
+      let size = h.size in
+      let own = some_of (get nat_eq old node.ino) (λ n. (n.ino ≡ node.ino) × (n.rec ≡ 0 + node.rec)) (own-at old 0 node.rec node.ino numbers None h.numbered (replaced-at.1) at) in
+      IsAbsent-taken old 0 node.rec node.ino own.0 numbers h.numbered own.1 own.2.1
 
   module _ (renewed : IsRenewed old new node.ino (Some node)) where
     pub seen-replaced : slots_of new numbers ≡ set slots node.rec (Some node)

@@ -172,7 +172,9 @@ impl Tree {
         requires unnamed { child_of (without node.now.rec self.old.nodes) node.now.parent node.now.name ≡ None }
         requires whole { IsTree (placed node.now (without node.now.rec self.old.nodes)) self.old.next }
         ensures { self.new ≡ record {
-            nodes = placed node.now (without node.now.rec self.old.nodes); next = self.old.next } }
+          nodes = placed node.now (without node.now.rec self.old.nodes);
+          next = self.old.next;
+        } }
     {
         let Some(old) = self.nodes.get(node.rec) else {
             unreachable!()
@@ -206,9 +208,10 @@ fn fill(index: &mut IndexMap<Child, u32>, nodes: &Nodes)
 {
     index.clear();
     for rec in 0..RECORDS as u32 {
-        if let Some(node) = nodes.get(rec) {
-            index.insert(key_of(node), rec).unwrap();
-        }
+        let Some(node) = nodes.get(rec) else {
+            continue;
+        };
+        index.insert(key_of(node), rec).unwrap();
     }
 }
 
