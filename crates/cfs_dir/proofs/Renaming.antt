@@ -23,7 +23,7 @@ use Rattle.cfs_dir.proofs.Below.{below-leaf, below-own, below-without}
 use Rattle.cfs_dir.proofs.Changed.{CanLeave-leaf, without-absent}
 use Rattle.cfs_dir.proofs.Depth.{leads-without}
 use Rattle.cfs_dir.proofs.Found.{node_at-In, rec-least}
-use Rattle.cfs_dir.proofs.Grown.{IsSomeAnd_from, is_child-parts}
+use Rattle.cfs_dir.proofs.Grown.{IsSomeAnd_from, is_child-parts, some_of}
 use Rattle.cfs_dir.proofs.Members.{In, All-In, In-filter, In-kept, find-Some, find-None, find-none_of, find-filter_kept, list_any-In, list_any-none}
 use Rattle.cfs_dir.proofs.Moves.{IsGoal, IsTree-moved, moved_node, root-stays}
 use Rattle.cfs_dir.proofs.Shrunk.{IsLeaf, IsTree-without, file-leaf, kept-other, no_child}
@@ -386,3 +386,22 @@ module _ (namespace : Namespace) (credential : Credential) (from to : List (List
 
   pub renamed-goes : node_at namespace.nodes node.rec ≡ Some (moved_node node directory.ino name) → ⊥
   renamed-goes = moves-goes namespace node directory name there (length to) goes
+
+-- the node still stands where the one that it replaces is gone
+pub stands-over : (namespace : Namespace) (moved : Moved) (other : Node) (nodes : List Node) → CanMove namespace moved → moved.replaced ≡ Some other
+    → nodes ≡ without other.rec namespace.nodes → IsSomeAnd (node_at nodes moved.node.rec) (λ old. old.ino ≡ moved.node.ino)
+stands-over namespace moved other nodes can e same =
+    let old = some_of (node_at namespace.nodes moved.node.rec) (IsSameNode moved.node) can.stands in
+    let at : old.0.rec ≡ moved.node.rec = eqb-true old.0.rec moved.node.rec (find-Some (λ n. nat_eq n.rec moved.node.rec) namespace.nodes old.0 old.1).1 in
+    let differs = (can.replaces other e).differs in
+    subst (λ ns. IsSomeAnd (node_at ns moved.node.rec) (λ old. old.ino ≡ moved.node.ino)) (sym same)
+    (IsSomeAnd_from (node_at (without other.rec namespace.nodes) moved.node.rec) old.0 (λ old. old.ino ≡ moved.node.ino)
+    (find-filter_kept (λ n. nat_eq n.rec moved.node.rec) (λ n. not (nat_eq n.rec other.rec)) namespace.nodes old.0 old.1
+    (ap not (ne_eqb old.0.rec other.rec (λ r. differs (sym r ∙ at))))) old.2.ino)
+
+pub stands-free : (namespace : Namespace) (moved : Moved) (nodes : List Node) → CanMove namespace moved
+    → nodes ≡ namespace.nodes → IsSomeAnd (node_at nodes moved.node.rec) (λ old. old.ino ≡ moved.node.ino)
+stands-free namespace moved nodes can same =
+    let old = some_of (node_at namespace.nodes moved.node.rec) (IsSameNode moved.node) can.stands in
+    subst (λ ns. IsSomeAnd (node_at ns moved.node.rec) (λ old. old.ino ≡ moved.node.ino)) (sym same)
+    (IsSomeAnd_from (node_at namespace.nodes moved.node.rec) old.0 (λ old. old.ino ≡ moved.node.ino) old.1 old.2.ino)
