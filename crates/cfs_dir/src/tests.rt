@@ -295,10 +295,12 @@ fn renamed(
     to: &Path,
 ) -> Result<String, AllocError> {
     match tree.rename(credential, from, to) {
-        Ok(Moved {
-            node,
-            replaced: Some(other),
-        }) => format!(in alloc; "{}/{}", node.ino, other.ino),
+        Ok(
+            Moved {
+                node,
+                replaced: Some(other),
+            },
+        ) => format!(in alloc; "{}/{}", node.ino, other.ino),
         Ok(moved) => format!(in alloc; "{}", moved.node.ino),
         Err(refusal) => format!(in alloc; "{refusal}"),
     }
@@ -335,7 +337,12 @@ fn renames_in_order(rt: HostRuntime) -> Result<(), Fail> {
 #[test]
 fn rename_in_halves(rt: HostRuntime) -> Result<(), Fail> {
     let mut tree = Tree::with_root(rt.alloc(), 0o755, 10, 10)?;
-    run(&rt, rt.alloc(), &mut tree, "10 create 644 /a 2\n10 create 644 /b 3")?;
+    run(
+        &rt,
+        rt.alloc(),
+        &mut tree,
+        "10 create 644 /a 2\n10 create 644 /b 3",
+    )?;
     let from = Path::parse(rt.alloc(), b"/a".as_slice())?;
     let to = Path::parse(rt.alloc(), b"/b".as_slice())?;
     let credential = Credential { uid: 10, gid: 10 };
