@@ -8,18 +8,11 @@ use Rattle.cfs_dir.specs.declared.child.Child.{Child}
 use Rattle.cfs_dir.specs.declared.node.Node.{Node}
 use Rattle.cfs_dir.specs.Namespace.{child_of, is_child, placed, without}
 use Rattle.cfs_dir.specs.Tree.{IsTree}
+pub use Rattle.cfs_dir.specs.Table.{IsUpdated, key_of}
 use Rattle.cfs_dir.specs.Table.{Index, IsIndex, same_child}
 use Rattle.cfs_dir.proofs.Members.{In, All-In, In-filter, find-Some, find-None, find-none_of, find-placed_other, find-placed_same, find-filter_kept, find-filter_gone}
 use Rattle.cfs_dir.proofs.Grown.{is_child-parts}
 use Rattle.cfs_dir.proofs.Shrunk.{kept-other}
-
--- the index finds a value at one key, and what it found before at every other key
-abbrev pub IsUpdated : Index → Index → Child → Option ℕ → Type 0
-IsUpdated old new key value = (child : Child) → get same_child new child ≡ cond (same_child key child) value (get same_child old child)
-
--- where a node stands in the index
-abbrev pub key_of : Node → Child
-key_of node = record { parent = node.parent; name = node.name }
 
 pub IsIndex-placed : (nodes : List Node) (node : Node) (old new : Index) → child_of nodes node.parent node.name ≡ None
     → IsIndex nodes old → IsUpdated old new (key_of node) (Some node.rec) → IsIndex (placed node nodes) new

@@ -1,12 +1,16 @@
+pub mod Below
 pub mod Changed
 pub mod Depth
+pub mod Filled
 pub mod Found
 pub mod Grown
 pub mod Indexed
 pub mod Listed
 pub mod Members
+pub mod Moves
 pub mod Numbers
 pub mod Reading
+pub mod Renaming
 pub mod Shrunk
 pub mod Slots
 pub mod Walked

@@ -1,7 +1,9 @@
 -- A table that is made of a list of nodes, one after another.
-use Rattle.std.proofs.Common.{◌≡◌, ◌≢◌, ℕ, zero, suc, ◌+◌, ◌≤◌, ◌<◌, List, [], ◌∷◌, length, take, get_or, Bool, true, inl, inr, refl, sym, ◌∙◌, ap, subst, arith, add-one, ◌^◌}
+use Rattle.std.proofs.Common.{◌≡◌, ◌≢◌, ℕ, zero, suc, ◌+◌, ◌≤◌, ◌<◌, List, [], ◌∷◌, length, take, get_or, Bool, true, cond, inl, inr, refl, sym, ◌∙◌, ap, subst, arith, add-one, ◌^◌}
 use Rattle.std.proofs.Math.ListN.{set, length-set}
-use Rattle.std.specs.Prelude.{Option, Some, None, IsSomeAnd, find, nat_eq, nat_lt, replicate, slice_get}
+use Rattle.std.specs.Prelude.{Option, Some, None, IsSomeAnd, find, is_some, nat_eq, nat_lt, replicate, slice_get}
+use Rattle.std.specs.HashMap.{get, hash_map_len}
+use Rattle.std.specs.Map.{lookup}
 use Rattle.std.specs.Option.{option_and_then, option_map}
 use Rattle.std.proofs.lemmas.Bool.{cases_Bool, cond-true, eqb-true, lt-ltb, ne_eqb}
 use Rattle.std.proofs.lemmas.List.Elements.{All-cons, All-nil}
@@ -10,7 +12,8 @@ use Rattle.cfs_dir.specs.declared.node.Node.{Node}
 use Rattle.cfs_dir.specs.Name.{IsNodeName}
 use Rattle.cfs_dir.specs.Namespace.{node_at, node_of, child_of, is_child, placed}
 use Rattle.cfs_dir.specs.Tree.{AreAscendingFrom, IsTree, leads_to_root, root_of}
-use Rattle.cfs_dir.specs.Table.{AreListed, AreAtRecords, Index, IsIndex, IsTableOf, nodes_of}
+use Rattle.cfs_dir.specs.Table.{AreListed, AreAtRecords, Index, IsTableOf, nodes_of, same_child}
+use Rattle.cfs_dir.proofs.Changed.{length-placed, more-entries}
 use Rattle.cfs_dir.proofs.Depth.{leads-root}
 use Rattle.cfs_dir.proofs.Grown.{is_child-parts}
 use Rattle.cfs_dir.proofs.Indexed.{IsUpdated, key_of, IsIndex-placed}
@@ -94,12 +97,13 @@ node_of-before i nodes d h lt = find-before (λ n. nat_eq n.ino (get_or nodes i 
     let once : (x : Node) → In nodes x → node_of nodes x.ino ≡ Some x = λ x s. All-In (λ x. node_of nodes x.ino ≡ Some x) nodes x h.number_once s in
     sym (once n m) ∙ ap (λ k. node_of nodes k) (eqb-true n.ino (get_or nodes i d).ino t) ∙ once (get_or nodes i d) (In-get_or i nodes d lt))
 
-pub IsTableOf-empty : (slots : List (Option Node)) (index : Index) → slots ≡ replicate 256 None → IsIndex [] index → IsTableOf slots index []
-IsTableOf-empty slots index e indexed = rw e (record {
+pub IsTableOf-empty : (slots : List (Option Node)) (index : Index) → slots ≡ replicate 256 None → index.entries ≡ [] → IsTableOf slots index []
+IsTableOf-empty slots index e empty = rw e (record {
   size = refl;
   at_records = AreAtRecords-empty 256 0;
   nodes_are = nodes_of-empty 256;
-  indexed = indexed;
+  indexed = λ child. ap (λ entries. lookup (same_child child) entries) empty;
+  count = ap length empty;
 })
 
 -- the next node is put among those before it
@@ -122,8 +126,9 @@ module _ (slots : List (Option Node)) (index : Index) (nodes : List Node) (i : �
       ap (λ ns. node_of ns node.ino) table.nodes_are ∙ ap (λ (n : Node). node_of (take i nodes) n.ino) is ∙ node_of-before i nodes node h lt
 
   pub IsTableOf-next : (new : Index) (after : List (Option Node)) → after ≡ set slots node.rec (Some node)
-      → IsUpdated index new (key_of node) (Some node.rec) → IsTableOf after new (take (i + 1) nodes)
-  IsTableOf-next new after same updated =
+      → IsUpdated index new (key_of node) (Some node.rec) → (was : Option ℕ) → was ≡ get same_child index (key_of node)
+      → hash_map_len new ≡ hash_map_len index + cond (is_some was) 0 1 → IsTableOf after new (take (i + 1) nodes)
+  IsTableOf-next new after same updated was found len =
       let within = next-within in
       let size = table.size in
       let empty : slot_at slots node.rec ≡ None = slot_at-slice_get slots node.rec ∙ next-free in
@@ -131,6 +136,7 @@ module _ (slots : List (Option Node)) (index : Index) (nodes : List Node) (i : �
       ap (λ n. placed n (take i nodes)) is ∙ placed-last 0 i nodes node h.ascending lt ∙ ap (λ k. take k nodes) (sym (add-one i)) in
       let unnamed : child_of (take i nodes) node.parent node.name ≡ None =
       ap (λ (n : Node). child_of (take i nodes) n.parent n.name) is ∙ child_of-before i nodes node h lt in
+      let none : was ≡ None = found ∙ table.indexed (key_of node) ∙ ap (λ o. option_map (λ (n : Node). n.rec) o) unnamed in
       rw same (record {
         size = length-set slots node.rec (Some node) ∙ table.size;
         at_records = AreAtRecords-set_some 0 slots node.rec node table.at_records (omega arith);
@@ -138,6 +144,7 @@ module _ (slots : List (Option Node)) (index : Index) (nodes : List Node) (i : �
             ∙ ap (λ ns. placed node ns) table.nodes_are ∙ grown;
         indexed = λ child. IsIndex-placed (take i nodes) node index new unnamed table.indexed updated child
             ∙ ap (λ ns. option_map (λ (n : Node). n.rec) (child_of ns child.parent child.name)) grown;
+        count = more-entries index new was none len ∙ ap (λ n. suc n) table.count ∙ sym (length-placed node (take i nodes)) ∙ ap length grown;
       })
 
 -- the root alone is a tree

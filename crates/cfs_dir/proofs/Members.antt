@@ -1,7 +1,8 @@
 -- Elements of a list, what `find` finds, and both in the list of nodes with one more or one less.
 use Rattle.std.proofs.Common.{◌≡◌, List, [], ◌∷◌, Bool, true, false, cond, ◌⊎◌, inl, inr, refl, sym, ◌∙◌, ap, subst}
 use Rattle.std.specs.Prelude.{Some, None, All, find, filter, nat_lt}
-use Rattle.std.proofs.lemmas.Bool.{cases_Bool, cond-true, cond-false}
+use Rattle.std.specs.List.{list_any}
+use Rattle.std.proofs.lemmas.Bool.{cases_Bool, cond-true, cond-false, or_from, or_parts}
 use Rattle.std.proofs.lemmas.List.Elements.{All-head, All-tail, All-cons, All-nil}
 use Rattle.cfs_dir.specs.declared.node.Node.{Node}
 use Rattle.cfs_dir.specs.Namespace.{placed}
@@ -55,6 +56,30 @@ In-filter keep (y ∷ ys) x m = elim (cases_Bool (keep y)) [
   | inr f ↦ let r = In-filter keep ys x (subst (λ zs. In zs x) (cond-false (keep y) (y ∷ filter keep ys) (filter keep ys) f) m) in
       (inr r.0, r.1)
 ]
+
+pub In-kept : {X : Type 0} (keep : X → Bool) (xs : List X) (x : X) → In xs x → keep x ≡ true → In (filter keep xs) x
+In-kept keep [] x m k = absurd m
+In-kept keep (y ∷ ys) x m k = elim (cases_Bool (keep y)) [
+  | inl t ↦ subst (λ zs. In zs x) (sym (cond-true (keep y) (y ∷ filter keep ys) (filter keep ys) t)) (elim m [
+    | inl same ↦ inl same
+    | inr rest ↦ inr (In-kept keep ys x rest k)
+  ])
+  | inr f ↦ subst (λ zs. In zs x) (sym (cond-false (keep y) (y ∷ filter keep ys) (filter keep ys) f)) (elim m [
+    | inl same ↦ absurd (let h = subst (λ z. keep z ≡ true) (sym same) k in cc)
+    | inr rest ↦ In-kept keep ys x rest k
+  ])
+]
+
+pub list_any-In : {X : Type 0} (p : X → Bool) (xs : List X) (x : X) → list_any p xs ≡ false → In xs x → p x ≡ false
+list_any-In p [] x h m = absurd m
+list_any-In p (y ∷ ys) x h m = let parts = or_parts (p y) (list_any p ys) h in elim m [
+  | inl same ↦ subst (λ z. p z ≡ false) same parts.0
+  | inr rest ↦ list_any-In p ys x parts.1 rest
+]
+
+pub list_any-none : {X : Type 0} (p : X → Bool) (xs : List X) → ((x : X) → In xs x → p x ≡ false) → list_any p xs ≡ false
+list_any-none p [] h = refl
+list_any-none p (y ∷ ys) h = or_from (p y) (list_any p ys) (h y (inl refl)) (list_any-none p ys (λ x m. h x (inr m)))
 
 -- what `find` finds stays found where it is kept
 pub find-filter_kept : {X : Type 0} (p keep : X → Bool) (xs : List X) (x : X) → find p xs ≡ Some x → keep x ≡ true

@@ -1,17 +1,18 @@
 -- The nodes by number after one is put at its record or taken out.
-use Rattle.std.proofs.Common.{◌≡◌, ◌≢◌, ℕ, zero, suc, ◌+◌, ◌<◌, List, [], ◌∷◌, length, map, get_or, ◌||◌, cond, inl, inr, refl, sym, ◌∙◌, ap, subst, arith}
+use Rattle.std.proofs.Common.{◌≡◌, ◌≢◌, ℕ, zero, suc, ◌+◌, ◌<◌, List, [], ◌∷◌, length, map, get_or, ◌||◌, cond, ◌⊎◌, inl, inr, refl, sym, ◌∙◌, ap, subst, arith}
 use Rattle.std.proofs.Math.ListN.{set, length-set}
-use Rattle.std.specs.Prelude.{Option, Some, None, IsSomeAnd, replicate, nat_eq, slice_get}
+use Rattle.std.specs.Result.{IsOk}
+use Rattle.std.specs.Prelude.{Bool, Result, Ok, Err, IfOk, OnOk, OnErr, Option, Some, None, IsSomeAnd, replicate, nat_eq, slice_get}
 use Rattle.std.specs.Option.{option_and_then}
 use Rattle.std.specs.HashMap.{get}
 use Rattle.std.specs.Map.{lookup}
 use Rattle.std.specs.List.{list_any}
-use Rattle.std.proofs.lemmas.Bool.{cases_Bool, cond-true, cond-false, eq-eqb, ne_eqb}
+use Rattle.std.proofs.lemmas.Bool.{cases_Bool, cond-true, cond-false, eq-eqb, ne_eqb, eqb-true}
 use Rattle.std.proofs.lemmas.List.{map-set}
 use Rattle.cfs_dir.specs.declared.node.Node.{Node}
 use Rattle.cfs_dir.specs.Namespace.{node_of}
 use Rattle.cfs_dir.specs.Numbered.{NodeMap, slot_of, slots_of, FindsOwn, AreNumbered, IsAbsent, IsNumbered}
-use Rattle.cfs_dir.specs.Table.{nodes_of, stands_in}
+use Rattle.cfs_dir.specs.Table.{nodes_of}
 use Rattle.cfs_dir.proofs.Grown.{some_of, IsSomeAnd_from}
 
 -- the map finds a value at one number, and what it found before at every other
@@ -247,8 +248,119 @@ module _ (old : NodeMap) (numbers : List (Option ℕ)) (slots : List (Option Nod
       ];
     }
 
-pub list_any-slots_of : (by_number : NodeMap) (parent : ℕ) (numbers : List (Option ℕ))
-    → list_any (λ number. stands_in parent (slot_of by_number number)) numbers ≡ list_any (stands_in parent) (slots_of by_number numbers)
-list_any-slots_of by_number parent [] = refl
-list_any-slots_of by_number parent (number ∷ numbers) =
-    ap (λ b. stands_in parent (slot_of by_number number) || b) (list_any-slots_of by_number parent numbers)
+-- the node of a number is the one that the map finds
+node_of-numbered : (by_number : NodeMap) (first key : ℕ) (numbers : List (Option ℕ)) → AreNumbered by_number first numbers
+    → (node_of (nodes_of (slots_of by_number numbers)) key ≡ get nat_eq by_number key)
+    ⊎ (IsAbsent key numbers × (node_of (nodes_of (slots_of by_number numbers)) key ≡ None))
+node_of-numbered by_number first key [] h = inr (tt, refl)
+node_of-numbered by_number first key (None ∷ numbers) h = node_of-numbered by_number (suc first) key numbers h.1
+node_of-numbered by_number first key (Some number ∷ numbers) h =
+    let own = some_of (get nat_eq by_number number) (λ node. (node.ino ≡ number) × (node.rec ≡ first)) h.0 in
+    let others = node_of (nodes_of (slots_of by_number numbers)) key in
+    let shape : node_of (nodes_of (slots_of by_number (Some number ∷ numbers))) key ≡ cond (nat_eq own.0.ino key) (Some own.0) others =
+    ap (λ slot. node_of (nodes_of (slot ∷ slots_of by_number numbers)) key) own.1 in
+    elim (cases_Bool (nat_eq own.0.ino key)) [
+      | inl t ↦ inl (shape ∙ cond-true (nat_eq own.0.ino key) (Some own.0) others t ∙ sym own.1
+          ∙ ap (λ k. get nat_eq by_number k) (sym own.2.0 ∙ eqb-true own.0.ino key t))
+      | inr f ↦
+          let passed = shape ∙ cond-false (nat_eq own.0.ino key) (Some own.0) others f in
+          elim (node_of-numbered by_number (suc first) key numbers h.1) [
+            | inl e ↦ inl (passed ∙ e)
+            | inr absent ↦ inr ((λ same. (let hit = eq-eqb own.0.ino key (own.2.0 ∙ sym same) in cc), absent.0), passed ∙ absent.1)
+          ]
+    ]
+
+pub get-numbered : (by_number : NodeMap) (numbers : List (Option ℕ)) → IsNumbered by_number numbers → (key : ℕ)
+    → get nat_eq by_number key ≡ node_of (nodes_of (slots_of by_number numbers)) key
+get-numbered by_number numbers h key = elim (node_of-numbered by_number 0 key numbers h.numbered) [
+  | inl e ↦ sym e
+  | inr absent ↦ h.only key absent.0 ∙ sym absent.1
+]
+
+-- the number of the node of a record
+pub number-at : (by_number : NodeMap) (first i : ℕ) (numbers : List (Option ℕ)) (node : Node) → AreNumbered by_number first numbers
+    → option_and_then (λ slot. slot) (slice_get (slots_of by_number numbers) i) ≡ Some node
+    → (get_or numbers i None ≡ Some node.ino) × (i < length numbers) × (get nat_eq by_number node.ino ≡ Some node)
+number-at by_number first i [] node h e = absurd (cc)
+number-at by_number first zero (None ∷ numbers) node h e = absurd (cc)
+number-at by_number first zero (Some number ∷ numbers) node h e =
+    let own = some_of (get nat_eq by_number number) (λ node. (node.ino ≡ number) × (node.rec ≡ first)) h.0 in
+    let same : Some own.0 ≡ Some node = sym own.1 ∙ e in
+    let one : own.0 ≡ node = cc in
+    let numbered : number ≡ node.ino = sym own.2.0 ∙ ap (λ (n : Node). n.ino) one in
+    (ap (λ n. Some n) numbered, omega arith, ap (λ n. get nat_eq by_number n) (sym numbered) ∙ e)
+number-at by_number first (suc i) (number ∷ numbers) node h e =
+    let deeper = number-at by_number (suc first) i numbers node h.1 e in
+    (deeper.0, omega arith, deeper.2)
+
+set-again : (numbers : List (Option ℕ)) (i : ℕ) (value d : Option ℕ) → get_or numbers i d ≡ value → i < length numbers
+    → set (set numbers i None) i value ≡ numbers
+set-again [] i value d e lt = absurd (omega arith)
+set-again (number ∷ numbers) zero value d e lt = ap (λ n. n ∷ numbers) (sym e)
+set-again (number ∷ numbers) (suc i) value d e lt = ap (λ ns. number ∷ ns) (set-again numbers i value d e (omega arith))
+
+pub set-set : {X : Type 0} (xs : List X) (i : ℕ) (one other : X) → set (set xs i one) i other ≡ set xs i other
+set-set [] i one other = refl
+set-set (x ∷ xs) zero one other = refl
+set-set (x ∷ xs) (suc i) one other = ap (λ ys. x ∷ ys) (set-set xs i one other)
+
+-- a call that a fact rules out has not failed
+pub ok_unless : {T E : Type 0} (P : Type 0) (result : Result T E) → OnErr result P → (P → ⊥) → IsOk result
+ok_unless P (Ok value) h never = refl
+ok_unless P (Err refusal) h never = absurd (never h)
+
+pub on_ok : {T E : Type 0} (P : Type 0) (result : Result T E) (value : T) → result ≡ Ok value → OnOk result P → P
+on_ok P result value e h = subst (λ r. OnOk r P) e h
+
+pub if_ok : {T E : Type 0} (P : T → Type 0) (result : Result T E) (value : T) → result ≡ Ok value → IfOk result P → P value
+if_ok P result value e h = subst (λ r. IfOk r P) e h
+
+-- a node is put in place of the one of its record, which has its number
+module _ (old new : NodeMap) (numbers : List (Option ℕ)) (slots : List (Option Node)) (node was : Node) (h : IsNumbered old numbers)
+    (seen : slots_of old numbers ≡ slots) (stands : option_and_then (λ slot. slot) (slice_get slots node.rec) ≡ Some was)
+    (same : was.ino ≡ node.ino) where
+  replaced-at : (get_or numbers node.rec None ≡ Some was.ino) × (node.rec < length numbers) × (get nat_eq old was.ino ≡ Some was)
+  replaced-at = number-at old 0 node.rec numbers was h.numbered
+      (ap (λ s. option_and_then (λ slot. slot) (slice_get s node.rec)) seen ∙ stands)
+
+  at : get_or numbers node.rec None ≡ Some node.ino
+  at = replaced-at.0 ∙ ap (λ n. Some n) same
+
+  pub replaced-found : get nat_eq old node.ino ≡ Some was
+  replaced-found = ap (λ n. get nat_eq old n) (sym same) ∙ replaced-at.2
+
+  absent : IsAbsent node.ino (set numbers node.rec None)
+  absent =
+      let size = h.size in
+      let own = some_of (get nat_eq old node.ino) (λ n. (n.ino ≡ node.ino) × (n.rec ≡ 0 + node.rec)) (own-at old 0 node.rec node.ino numbers None h.numbered (replaced-at.1) at) in
+      IsAbsent-taken old 0 node.rec node.ino own.0 numbers h.numbered own.1 own.2.1
+
+  module _ (renewed : IsRenewed old new node.ino (Some node)) where
+    pub seen-replaced : slots_of new numbers ≡ set slots node.rec (Some node)
+    seen-replaced =
+        ap (λ ns. slots_of new ns) (sym (set-again numbers node.rec (Some node.ino) None at replaced-at.1))
+        ∙ map-set (slot_of new) (set numbers node.rec None) node.rec (Some node.ino)
+        ∙ ap (λ slot. set (slots_of new (set numbers node.rec None)) node.rec slot) (get-own old new node.ino (Some node) renewed)
+        ∙ ap (λ s. set s node.rec (Some node)) (slots_of-same old new node.ino (Some node) (set numbers node.rec None) renewed absent
+        ∙ seen-none old numbers slots node.rec h seen)
+        ∙ set-set slots node.rec None (Some node)
+
+    pub IsNumbered-replaced : IsNumbered new numbers
+    IsNumbered-replaced = record {
+      size = h.size;
+      numbered = subst (λ ns. AreNumbered new 0 ns) (set-again numbers node.rec (Some node.ino) None at replaced-at.1)
+          (AreNumbered-set new 0 node.rec (Some node.ino) (set numbers node.rec None)
+          (AreNumbered-same old new 0 node.ino (Some node) (set numbers node.rec None) renewed absent (AreNumbered-set old 0 node.rec None numbers h.numbered tt))
+          (IsSomeAnd_from (get nat_eq new node.ino) node (λ n. (n.ino ≡ node.ino) × (n.rec ≡ 0 + node.rec)) (get-own old new node.ino (Some node) renewed) (refl, omega arith)));
+      only = λ number gone.
+          get-other old new node.ino (Some node) number renewed
+          (λ e. IsAbsent-put_at node.rec number node.ino (set numbers node.rec None) (let size = length-set numbers node.rec None in let within = replaced-at.1 in omega arith)
+          (subst (λ ns. IsAbsent number ns) (sym (set-again numbers node.rec (Some node.ino) None at replaced-at.1)) gone) (sym e))
+          ∙ h.only number gone;
+    }
+
+pub list_any-slots_of : (by_number : NodeMap) (test : Option Node → Bool) (numbers : List (Option ℕ))
+    → list_any (λ number. test (slot_of by_number number)) numbers ≡ list_any test (slots_of by_number numbers)
+list_any-slots_of by_number test [] = refl
+list_any-slots_of by_number test (number ∷ numbers) =
+    ap (λ b. test (slot_of by_number number) || b) (list_any-slots_of by_number test numbers)

@@ -1,14 +1,14 @@
 -- The slots of a table, and the nodes that stand in them.
 use Rattle.std.proofs.Common.{◌≡◌, ℕ, zero, suc, ◌+◌, ◌≤◌, ◌<◌, List, [], ◌∷◌, length, not, ◌||◌, refl, sym, ◌∙◌, ap, arith}
 use Rattle.std.proofs.Math.ListN.{set}
-use Rattle.std.specs.Prelude.{Option, Some, None, slice_get, nat_lt, nat_eq}
+use Rattle.std.specs.Prelude.{Bool, Option, Some, None, slice_get, nat_lt, nat_eq}
 use Rattle.std.specs.List.{list_any}
 use Rattle.std.specs.Option.{option_and_then}
 use Rattle.std.proofs.lemmas.Bool.{eq-eqb, ne_eqb, lt-ltb, le-ltb, cond-true, cond-false}
 use Rattle.cfs_dir.specs.declared.node.Node.{Node}
 use Rattle.cfs_dir.specs.Namespace.{node_at, has_child, placed, without}
 use Rattle.cfs_dir.specs.Tree.{AreAscendingFrom}
-use Rattle.cfs_dir.specs.Table.{nodes_of, stands_in, AreAtRecords}
+use Rattle.cfs_dir.specs.Table.{holds, nodes_of, stands_in, AreAtRecords}
 
 -- the node of a record, by its place
 abbrev pub slot_at : List (Option Node) → ℕ → Option Node
@@ -113,7 +113,10 @@ pub slot_is_node : (slots : List (Option Node)) (rec : ℕ) → AreAtRecords 0 s
     → option_and_then (λ slot. slot) (slice_get slots rec) ≡ node_at (nodes_of slots) rec
 slot_is_node slots rec h = sym (slot_at-slice_get slots rec) ∙ sym (node_at-nodes_of 0 slots rec rec h (omega arith))
 
+pub list_any-holds : (slots : List (Option Node)) (test : Node → Bool) → list_any (holds test) slots ≡ list_any test (nodes_of slots)
+list_any-holds [] test = refl
+list_any-holds (None ∷ slots) test = list_any-holds slots test
+list_any-holds (Some node ∷ slots) test = ap (λ b. test node || b) (list_any-holds slots test)
+
 pub list_any-stands_in : (slots : List (Option Node)) (parent : ℕ) → list_any (stands_in parent) slots ≡ has_child (nodes_of slots) parent
-list_any-stands_in [] parent = refl
-list_any-stands_in (None ∷ slots) parent = list_any-stands_in slots parent
-list_any-stands_in (Some node ∷ slots) parent = ap (λ b. nat_eq node.parent parent || b) (list_any-stands_in slots parent)
+list_any-stands_in slots parent = list_any-holds slots (λ node. nat_eq node.parent parent)

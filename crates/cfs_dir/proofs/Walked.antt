@@ -11,6 +11,7 @@ use Rattle.cfs_cred.specs.declared.want.Want.TheVariants.{Search}
 use Rattle.cfs_dir.specs.declared.kind.Kind.{Kind}
 use Rattle.cfs_dir.specs.declared.kind.Kind.TheVariants.{Directory, File}
 use Rattle.cfs_dir.specs.declared.node.Node.{Node}
+use Rattle.cfs_dir.specs.declared.place.Place.{Place}
 use Rattle.cfs_dir.specs.declared.place.Place.TheVariants.{Entry}
 use Rattle.cfs_dir.specs.declared.posix.Posix.{Posix}
 use Rattle.cfs_dir.specs.declared.posix.Posix.TheVariants.{InvalidArgument, NameTooLong, NotADirectory, PermissionDenied}
@@ -139,19 +140,18 @@ path-parts path e = elim (cases_Bool (list_any is_dots path)) [
 pub root-is : (nodes : List Node) (next : ℕ) (root : Node) → IsTree nodes next → node_at nodes 0 ≡ Some root → IsRoot root
 root-is nodes next root tree e = subst (λ o. IsSomeAnd o IsRoot) e tree.root
 
-pub place_of-Entry : (nodes : List Node) (next : ℕ) (credential : Credential) (path : List (List ℕ)) (directory : Node) (name : List ℕ) (found : Option Node)
-    → IsTree nodes next → ArePathNames path → place_of nodes credential path ≡ Ok (Entry directory name found)
-    → IsPlace nodes 15 directory name found
-place_of-Entry nodes next credential path directory name found tree names e =
-    elim (path_refusal path) as (λ o. path_refusal path ≡ o → walk_unless o nodes credential path ≡ Ok (Entry directory name found) → IsPlace nodes 15 directory name found) [
+pub place_of-Entry_at : (nodes : List Node) (next : ℕ) (credential : Credential) (path : List (List ℕ)) (directory : Node) (name : List ℕ) (found : Option Node) (most : ℕ)
+    → IsTree nodes next → ArePathNames path → length path ≤ suc most → place_of nodes credential path ≡ Ok (Entry directory name found)
+    → IsPlace nodes most directory name found
+place_of-Entry_at nodes next credential path directory name found most tree names short e =
+    elim (path_refusal path) as (λ o. path_refusal path ≡ o → walk_unless o nodes credential path ≡ Ok (Entry directory name found) → IsPlace nodes most directory name found) [
       | Some refusal ↦ λ was e. absurd (cc)
-      | None ↦ λ was e. elim (node_at nodes 0) as (λ o. node_at nodes 0 ≡ o → walk_from o nodes credential path ≡ Ok (Entry directory name found) → IsPlace nodes 15 directory name found) [
+      | None ↦ λ was e. elim (node_at nodes 0) as (λ o. node_at nodes 0 ≡ o → walk_from o nodes credential path ≡ Ok (Entry directory name found) → IsPlace nodes most directory name found) [
         | None ↦ λ at e. absurd (cc)
         | Some root ↦ λ at e.
             let parts = path-parts path was in
             let is = root-is nodes next root tree at in
-            let short = parts.2 in
-            walk-Entry nodes next 0 credential root path directory name found 15 tree
+            walk-Entry nodes next 0 credential root path directory name found most tree
             (record {
               stands = (find-Some (λ n. nat_eq n.rec 0) nodes root at).0;
               kind = is.kind;
@@ -160,3 +160,18 @@ place_of-Entry nodes next credential path directory name found tree names e =
             (names-of_path path names.1 parts.0 parts.1) (omega arith) e
       ] refl e
     ] refl e
+
+-- a path that leads somewhere has no more than 16 names
+pub place_of-few : (nodes : List Node) (credential : Credential) (path : List (List ℕ)) (place : Place) → place_of nodes credential path ≡ Ok place → length path ≤ 16
+place_of-few nodes credential path place e =
+    elim (path_refusal path) as (λ o. path_refusal path ≡ o → walk_unless o nodes credential path ≡ Ok place → length path ≤ 16) [
+      | Some refusal ↦ λ was e. absurd (cc)
+      | None ↦ λ was e. (path-parts path was).2
+    ] refl e
+
+pub place_of-Entry : (nodes : List Node) (next : ℕ) (credential : Credential) (path : List (List ℕ)) (directory : Node) (name : List ℕ) (found : Option Node)
+    → IsTree nodes next → ArePathNames path → place_of nodes credential path ≡ Ok (Entry directory name found)
+    → IsPlace nodes 15 directory name found
+place_of-Entry nodes next credential path directory name found tree names e =
+    let few = place_of-few nodes credential path (Entry directory name found) e in
+    place_of-Entry_at nodes next credential path directory name found 15 tree names (omega arith) e

@@ -7,5 +7,7 @@ pub mod Step
 pub mod Table
 pub mod Tree
 pub mod Change
+pub mod Moved
+pub mod Rename
 pub mod Words
 pub mod Told

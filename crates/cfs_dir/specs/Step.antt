@@ -28,11 +28,15 @@ unless passed refusal next = if passed then next else Err refusal
 abbrev pub has_right : Credential → Node → Want → Bool
 has_right credential node want = is_allowed node.mode node.uid node.gid credential want
 
+-- whether a name has more than 40 bytes, or there are more than 16 names
+abbrev pub is_too_long : List (List ℕ) → Bool
+is_too_long path = list_any (λ name. nat_lt 40 (length name)) path || nat_lt 16 (length path)
+
 -- the refusals that a path alone gives, in their order
 abbrev pub path_refusal : List (List ℕ) → Option Posix
 path_refusal path =
     if list_any is_dots path then Some InvalidArgument
-    else (if list_any (λ name. nat_lt 40 (length name)) path || nat_lt 16 (length path) then Some NameTooLong else None)
+    else (if is_too_long path then Some NameTooLong else None)
 
 -- the directory of this name in a directory
 abbrev pub found_directory : Option Node → Result Node Posix

@@ -1,7 +1,8 @@
 ghost use Rattle.std.specs.Prelude.{◌≡◌, ◌<◌, nat_lt, length};
 ghost use Rattle.std.specs.List.{list_any};
 ghost use Rattle.cfs_dir.specs.Name.{is_dots};
-ghost use Rattle.cfs_dir.specs.Step.{path_refusal};
+ghost use Rattle.cfs_dir.specs.Rename.{paths_refusal};
+ghost use Rattle.cfs_dir.specs.Step.{is_too_long, path_refusal};
 
 use crate::name::LONGEST_NAME;
 use crate::path::Component;
@@ -17,10 +18,29 @@ pub(crate) fn path_refusal(names: &[Component]) -> Option<Posix>
     if has_dots(names) {
         return Some(Posix::InvalidArgument);
     }
-    if has_long_name(names) || names.len() > DEEPEST {
+    if is_too_long(names) {
         return Some(Posix::NameTooLong);
     }
     None
+}
+
+/// The refusal that two paths alone give.
+pub(crate) fn paths_refusal(from: &[Component], to: &[Component]) -> Option<Posix>
+    ensures { result ≡ paths_refusal from.now to.now }
+{
+    if has_dots(from) || has_dots(to) || from.is_empty() || to.is_empty() {
+        return Some(Posix::InvalidArgument);
+    }
+    if is_too_long(from) || is_too_long(to) {
+        return Some(Posix::NameTooLong);
+    }
+    None
+}
+
+fn is_too_long(names: &[Component]) -> bool
+    ensures { result ≡ is_too_long names.now }
+{
+    has_long_name(names) || names.len() > DEEPEST
 }
 
 fn has_dots(names: &[Component]) -> bool

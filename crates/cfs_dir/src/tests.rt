@@ -3,7 +3,7 @@ ghost use Rattle.std.specs.Option.{ForSome};
 ghost use Rattle.cfs_dir.specs.Namespace.{node_at};
 
 use crate::{
-    Change, Kind, Name, Node, Path, Posix, Tree, TreeRefusal, changes_are_told, node_words,
+    Change, Kind, Moved, Name, Node, Path, Posix, Tree, TreeRefusal, changes_are_told, node_words,
     nodes_are_told, tables_are_told,
 };
 use cfs_cred::Credential;
@@ -207,6 +207,155 @@ fn file_taken_back(rt: HostRuntime) -> Result<(), Fail> {
     tree.take_back(&node);
     assert!(rt; tree.lookup(credential, &path) == Err(TreeRefusal::Refused(Posix::NotFound)));
     assert_eq!(rt; tree.next(), 2);
+    Ok(())
+}
+
+/// Calls in order on a tree of user 10 that rename: a line has a user, the two paths, and what it
+/// answers, which is the inode number of the node, and behind a slash that of the node it replaces.
+const RENAMES: &str = "\
+10 /./a /b EINVAL
+10 /a /.. EINVAL
+10 / /b EINVAL
+10 /a / EINVAL
+10 /aaaaaaaaaaaaaaaaaaaaaaaaaaaaaaaaaaaaaaaaa / EINVAL
+10 /none /a/b/c/d/e/f/g/h/i/j/k/l/m/n/o/p/q ENAMETOOLONG
+10 /none /none/f ENOENT
+10 /d/f /none/f ENOENT
+10 /d/f /d/f/g ENOTDIR
+20 /p/f /q EACCES
+20 /d/f /p/f EACCES
+20 /d/f /d/f 3
+20 /d /d 2
+20 /d /d/e/d EINVAL
+20 /d /d/f EINVAL
+20 /d /g ENOTDIR
+20 /g /d EISDIR
+20 /t/t /d EACCES
+20 /g /t/g EACCES
+20 /t/g /g EACCES
+10 /e /d ENOTEMPTY
+10 /t /l/l/l/l/l/l/l/l/l/l/l/l/l/l/t ENAMETOOLONG
+10 /t/t /l/l/l/l/l/l/l/l/l/l/l/l/l/l/t 9
+10 /d/f /g 3/6
+10 /g /d/e/f 3
+10 /d/e /h 4
+10 /h/f /d/f 3
+10 /h /e 4/8
+10 /d /e/d 2
+10 /e/d/f /f 3
+10 /f /f 3
+";
+
+/// The directories and files that stand before, in the order of their inode numbers from 2 on.
+const BEFORE_RENAMES: &str = "\
+10 mkdir 777 /d 2
+10 create 644 /d/f 3
+10 mkdir 777 /d/e 4
+10 mkdir 700 /p 5
+10 create 644 /g 6
+10 mkdir 755 /t 7
+10 mkdir 755 /e 8
+10 mkdir 755 /t/t 9
+10 create 644 /t/g 10
+10 mkdir 755 /l 11
+10 mkdir 755 /l/l 12
+10 mkdir 755 /l/l/l 13
+10 mkdir 755 /l/l/l/l 14
+10 mkdir 755 /l/l/l/l/l 15
+10 mkdir 755 /l/l/l/l/l/l 16
+10 mkdir 755 /l/l/l/l/l/l/l 17
+10 mkdir 755 /l/l/l/l/l/l/l/l 18
+10 mkdir 755 /l/l/l/l/l/l/l/l/l 19
+10 mkdir 755 /l/l/l/l/l/l/l/l/l/l 20
+10 mkdir 755 /l/l/l/l/l/l/l/l/l/l/l 21
+10 mkdir 755 /l/l/l/l/l/l/l/l/l/l/l/l 22
+10 mkdir 755 /l/l/l/l/l/l/l/l/l/l/l/l/l 23
+10 mkdir 755 /l/l/l/l/l/l/l/l/l/l/l/l/l/l 24
+10 mkdir 755 /t/t/t 25
+";
+
+/// Where the nodes stand after the renames.
+const AFTER_RENAMES: &str = "\
+10 lookup 0 /f 3
+10 lookup 0 /e/d 2
+10 lookup 0 /e 4
+10 lookup 0 /d ENOENT
+10 lookup 0 /g ENOENT
+10 lookup 0 /h ENOENT
+10 rmdir 0 /e/d 2
+10 create 644 /d 26
+";
+
+/// Renames, and gives what a line of `RENAMES` answers.
+fn renamed(
+    alloc: Global,
+    tree: &mut Tree,
+    credential: Credential,
+    from: &Path,
+    to: &Path,
+) -> Result<String, AllocError> {
+    match tree.rename(credential, from, to) {
+        Ok(
+            Moved {
+                node,
+                replaced: Some(other),
+            },
+        ) => format!(in alloc; "{}/{}", node.ino, other.ino),
+        Ok(moved) => format!(in alloc; "{}", moved.node.ino),
+        Err(refusal) => format!(in alloc; "{refusal}"),
+    }
+}
+
+/// Makes the rename of a line, and compares its answer.
+fn run_rename(rt: &impl Abort, alloc: Global, tree: &mut Tree, line: &str) -> Result<(), Fail> {
+    let mut words = line.split_whitespace();
+    let user = words.next().ok_or("user")?.parse::<u32>()?;
+    let from = Path::parse(alloc, words.next().ok_or("path")?.as_bytes())?;
+    let to = Path::parse(alloc, words.next().ok_or("path")?.as_bytes())?;
+    let want = words.next().ok_or("answer")?;
+    let credential = Credential {
+        uid: user,
+        gid: user,
+    };
+    let given = renamed(alloc, tree, credential, &from, &to)?;
+    assert_eq!(rt; given.as_str(), want, "{line}");
+    Ok(())
+}
+
+#[test]
+fn renames_in_order(rt: HostRuntime) -> Result<(), Fail> {
+    let mut tree = Tree::with_root(rt.alloc(), 0o777, 10, 10)?;
+    run(&rt, rt.alloc(), &mut tree, BEFORE_RENAMES)?;
+    for line in RENAMES.lines() {
+        run_rename(&rt, rt.alloc(), &mut tree, line)?;
+    }
+    run(&rt, rt.alloc(), &mut tree, AFTER_RENAMES)?;
+    Ok(())
+}
+
+/// A rename in its two halves, and its change.
+#[test]
+fn rename_in_halves(rt: HostRuntime) -> Result<(), Fail> {
+    let mut tree = Tree::with_root(rt.alloc(), 0o755, 10, 10)?;
+    run(
+        &rt,
+        rt.alloc(),
+        &mut tree,
+        "10 create 644 /a 2\n10 create 644 /b 3",
+    )?;
+    let from = Path::parse(rt.alloc(), b"/a".as_slice())?;
+    let to = Path::parse(rt.alloc(), b"/b".as_slice())?;
+    let credential = Credential { uid: 10, gid: 10 };
+    let Ok(moved) = tree.node_to_move(credential, &from, &to) else {
+        return Err("refused")?;
+    };
+    let replaced = Some(2);
+    let node = moved.node;
+    assert!(rt; moved.change() == Change::Move { node, replaced });
+    assert!(rt; tree.lookup(credential, &from).is_ok());
+    tree.move_node(&moved);
+    assert!(rt; tree.lookup(credential, &to) == Ok(node));
+    assert!(rt; tree.lookup(credential, &from) == Err(TreeRefusal::Refused(Posix::NotFound)));
     Ok(())
 }
 

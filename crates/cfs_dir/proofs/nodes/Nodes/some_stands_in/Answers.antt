@@ -9,5 +9,5 @@ pub returns : goal.returns
 returns c =
     c.some_stands_in.ensures
     ∙ ap (λ numbers. list_any (λ number. stands_in c.args.parent (slot_of c.self.inside.by_number number)) numbers) c.deref.ensures.value
-    ∙ list_any-slots_of c.self.inside.by_number c.args.parent c.self.inside.numbers.items
+    ∙ list_any-slots_of c.self.inside.by_number (stands_in c.args.parent) c.self.inside.numbers.items
     ∙ ap (λ slots. list_any (stands_in c.args.parent) slots) c.self.view_is

@@ -1,7 +1,10 @@
-use Rattle.std.specs.Prelude.{Some}
-use Rattle.std.specs.HashMap.{Updates}
+use Rattle.std.proofs.Common.{◌≡◌, ◌+◌, cond}
+use Rattle.std.specs.Prelude.{Some, is_some}
+use Rattle.std.specs.HashMap.{get, Updates}
+use Rattle.indexmap.specs.IndexMap.{index_map_len}
 use Rattle.cfs_dir.specs.Table.{same_child}
-use Rattle.cfs_dir.proofs.Changed.{joined-undoable, joined-undone, joins-free, joins-unused, joins-within, on_ok, IsTable-joined, IsTable-kept, seen-joined}
+use Rattle.cfs_dir.proofs.Changed.{joined-undoable, joined-undone, joins-free, joins-unused, joins-within, IsTable-joined, IsTable-kept, seen-joined}
+use Rattle.cfs_dir.proofs.Numbers.{if_ok, on_ok}
 use Rattle.cfs_dir.proofs.Indexed.{key_of}
 use Rattle.cfs_dir.proofs.tree.Tree.insert.Goals as goal
 
@@ -23,6 +26,8 @@ invariant_of-self-2 c =
     c.insert.result c.unwrap.result c.unwrap.ensures c.insert.ensures.updates in
     IsTable-joined c.self.inside.nodes c.reserve.new.self c.insert.new.self c.self.inside.next c.put.new.self c.args.self.now c.args.node.now
     table c.self.view_is c.requires c.in_ok-put.ensures.put updated.0
+    c.unwrap.result (if_ok (λ old. old ≡ get same_child c.reserve.new.self (key_of c.args.node.now)) c.insert.result c.unwrap.result c.unwrap.ensures c.insert.ensures.old)
+    (if_ok (λ old. index_map_len c.insert.new.self ≡ index_map_len c.reserve.new.self + cond (is_some old) 0 1) c.insert.result c.unwrap.result c.unwrap.ensures c.insert.ensures.len)
 
 pub returns-clause-added : goal.returns-clause-added
 returns-clause-added c =
