@@ -1,8 +1,10 @@
+pub mod AreaLemmas
 pub mod EntryLemmas
 pub mod MeteredLemmas
 pub mod PayloadLemmas
 pub mod SettingLemmas
 pub mod ReadLemmas
+pub mod SlotReads
 pub mod SlotsLemmas
 pub mod StagedLemmas
 pub mod TailLemmas

@@ -1,5 +1,7 @@
 pub mod Operations
+pub mod Payload
 pub mod Reading
+pub mod Reads
 pub mod Regions
 pub mod Staging
 pub mod Tails

@@ -12,6 +12,7 @@ mod layout;
 mod live;
 mod metered;
 mod part;
+mod reading;
 mod recovery;
 mod slot;
 mod slots;
