@@ -97,7 +97,8 @@ impl Nodes {
 
     /// Whether a node below another has more than 16 names, where the other has so many.
     pub(crate) fn some_is_too_deep(&self, top: u64, names: usize) -> bool
-        ensures { result ≡ list_any (holds (node_is_too_deep (node_of (nodes_of self.now)) top names)) self.now }
+        ensures { result ≡
+            list_any (holds (node_is_too_deep (node_of (nodes_of self.now)) top names)) self.now }
     {
         some_is_too_deep(&self.by_number, &self.numbers, top, names)
     }
@@ -153,7 +154,9 @@ fn some_is_too_deep(
     top: u64,
     names: usize,
 ) -> bool
-    ensures { result ≡ list_any (λ number. holds (node_is_too_deep (get nat_eq by_number.now) top names) (slot_of by_number.now number)) numbers.now }
+    ensures { result ≡ list_any (λ number.
+        holds (node_is_too_deep (get nat_eq by_number.now) top names)
+        (slot_of by_number.now number)) numbers.now }
 {
     numbers
         .iter()
@@ -162,7 +165,8 @@ fn some_is_too_deep(
 
 /// Whether the node of this inode number has more than 16 names.
 fn is_too_deep(by_number: &IndexMap<u64, Node>, number: Option<u64>, top: u64, names: usize) -> bool
-    ensures { result ≡ holds (node_is_too_deep (get nat_eq by_number.now) top names) (slot_of by_number.now number) }
+    ensures { result ≡ holds (node_is_too_deep (get nat_eq by_number.now) top names)
+        (slot_of by_number.now number) }
 {
     let Some(number) = number else {
         return false;

@@ -56,7 +56,8 @@ impl Tree {
         ensures answer { result ≡ renamed self.now credential from.now to.now }
         ensures moves { IfOk result (CanMove self.now) }
         ensures itself { IfOk result (λ moved.
-            node_at self.now.nodes moved.node.rec ≡ Some moved.node → with_move self.now moved ≡ self.now) }
+            node_at self.now.nodes moved.node.rec ≡ Some moved.node →
+            with_move self.now moved ≡ self.now) }
     {
         if let Some(refusal) = paths_refusal(from.names(), to.names()) {
             return Err(refusal);
@@ -114,8 +115,8 @@ impl Tree {
         there: &Option<Node>,
         names: usize,
     ) -> Option<Posix>
-        ensures { result ≡
-            move_refusal self.now.nodes credential parent.now node.now directory.now there.now names }
+        ensures { result ≡ move_refusal self.now.nodes credential
+            parent.now node.now directory.now there.now names }
     {
         let is_directory = node.kind.is_directory();
         if is_directory && self.is_within(node.ino, directory.ino) {
@@ -168,9 +169,12 @@ impl Tree {
 
     /// Puts a node in place of the one of its record, which has its inode number.
     fn relocate(&mut self, node: &Node)
-        requires stands { IsSomeAnd (node_at self.old.nodes node.now.rec) (λ old. old.ino ≡ node.now.ino) }
-        requires unnamed { child_of (without node.now.rec self.old.nodes) node.now.parent node.now.name ≡ None }
-        requires whole { IsTree (placed node.now (without node.now.rec self.old.nodes)) self.old.next }
+        requires stands { IsSomeAnd (node_at self.old.nodes node.now.rec)
+            (λ old. old.ino ≡ node.now.ino) }
+        requires unnamed { child_of (without node.now.rec self.old.nodes)
+            node.now.parent node.now.name ≡ None }
+        requires whole { IsTree (placed node.now (without node.now.rec self.old.nodes))
+            self.old.next }
         ensures { self.new ≡ record {
           nodes = placed node.now (without node.now.rec self.old.nodes);
           next = self.old.next;
@@ -202,7 +206,9 @@ fn rename_key(index: &mut IndexMap<Child, u32>, nodes: &Nodes, old: &Node, node:
 fn fill(index: &mut IndexMap<Child, u32>, nodes: &Nodes)
     requires records { AreAtRecords 0 nodes.now }
     requires size { length nodes.now ≡ 256 }
-    requires name_once { All (λ node. child_of (nodes_of nodes.now) node.parent node.name ≡ Some node) (nodes_of nodes.now) }
+    requires name_once { All
+        (λ node. child_of (nodes_of nodes.now) node.parent node.name ≡ Some node)
+        (nodes_of nodes.now) }
     requires room { length (nodes_of nodes.now) ≤ index_map_len index.old + spare index.old }
     ensures { IsIndexOf (nodes_of nodes.now) index.new }
 {
