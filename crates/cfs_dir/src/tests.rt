@@ -295,13 +295,10 @@ fn renamed(
     to: &Path,
 ) -> Result<String, AllocError> {
     match tree.rename(credential, from, to) {
-        Ok(
-            Moved {
-                node,
-                replaced: Some(other),
-            },
-        ) => format!(in alloc; "{}/{}", node.ino, other.ino),
-        Ok(moved) => format!(in alloc; "{}", moved.node.ino),
+        Ok(moved) => match moved.replaced {
+            Some(other) => format!(in alloc; "{}/{}", moved.node.ino, other.ino),
+            None => format!(in alloc; "{}", moved.node.ino),
+        },
         Err(refusal) => format!(in alloc; "{refusal}"),
     }
 }
@@ -349,9 +346,12 @@ fn rename_in_halves(rt: HostRuntime) -> Result<(), Fail> {
     let Ok(moved) = tree.node_to_move(credential, &from, &to) else {
         return Err("refused")?;
     };
-    let replaced = Some(2);
     let node = moved.node;
-    assert!(rt; moved.change() == Change::Move { node, replaced });
+    let change = Change::Move {
+        node,
+        replaced: Some(2),
+    };
+    assert!(rt; moved.change() == change);
     assert!(rt; tree.lookup(credential, &from).is_ok());
     tree.move_node(&moved);
     assert!(rt; tree.lookup(credential, &to) == Ok(node));

@@ -1,8 +1,8 @@
 -- A list with one more note, and one that stays.
-use Rattle.std.proofs.Common.{◌≡◌, ℕ, zero, suc, All, List, [], ◌∷◌, ◌++◌, map, get_or, refl, sym, ap, ◌∙◌, set, get_or-set_other}
+use Rattle.std.proofs.Common.{◌≡◌, ℕ, All, List, [], ◌∷◌, ◌++◌, map, refl, sym, ap, ◌∙◌, set, get_or-set_other}
 use Rattle.std.proofs.lemmas.List.{append-nil, map-append}
 use Rattle.std.proofs.lemmas.List.Elements.{All-cons, All-nil}
-use Rattle.cfs_lock.specs.Log.{Entry, Grows, IsNewTo, entries_by}
+use Rattle.cfs_lock.specs.Log.{Entry, Grows}
 use Rattle.cfs_fake.specs.declared.listed.Listed.{Listed}
 use Rattle.cfs_fake.specs.declared.listed.Note.{Note}
 use Rattle.cfs_fake.specs.Listed.{entry_of, log_of, marked, part_of}
@@ -22,13 +22,3 @@ grew by word x y e e' = let note : Note = record { by = by; word = word } in rec
   by_it = All-cons (λ (entry : Entry). entry.0 ≡ by) (entry_of note) [] refl (All-nil (λ (entry : Entry). entry.0 ≡ by));
   parts = λ n ne. ap (λ marks. part_of (record x { marks = marks }) n) e' ∙ ap marked (get_or-set_other x.marks by n word 0 ne);
 }
-
-no_marks : (n : ℕ) → get_or (0 ∷ 0 ∷ 0 ∷ 0 ∷ []) n 0 ≡ 0
-no_marks zero = refl
-no_marks (suc zero) = refl
-no_marks (suc (suc zero)) = refl
-no_marks (suc (suc (suc zero))) = refl
-no_marks (suc (suc (suc (suc n)))) = refl
-
-pub fresh : (x : Listed) → x.notes.items ≡ [] → x.marks ≡ 0 ∷ 0 ∷ 0 ∷ 0 ∷ [] → (passes : ℕ) → IsNewTo log_of part_of passes x
-fresh x e e' passes n h = (ap (λ notes. entries_by n (map entry_of notes)) e, ap (λ marks. marked (get_or marks n 0)) e' ∙ ap marked (no_marks n))
