@@ -294,13 +294,16 @@ fn renamed(
     from: &Path,
     to: &Path,
 ) -> Result<String, AllocError> {
-    match tree.rename(credential, from, to) {
-        Ok(moved) => match moved.replaced {
-            Some(other) => format!(in alloc; "{}/{}", moved.node.ino, other.ino),
-            None => format!(in alloc; "{}", moved.node.ino),
-        },
-        Err(refusal) => format!(in alloc; "{refusal}"),
-    }
+    let moved = match tree.rename(credential, from, to) {
+        Ok(moved) => moved,
+        Err(refusal) => return format!(in alloc; "{refusal}"),
+    };
+    let ino = moved.node.ino;
+    let Some(other) = moved.replaced else {
+        return format!(in alloc; "{ino}");
+    };
+    let replaced = other.ino;
+    format!(in alloc; "{ino}/{replaced}")
 }
 
 /// Makes the rename of a line, and compares its answer.

@@ -96,24 +96,9 @@ fn found_first(mut regions: FixedVec<MemRegion, 16>, meter: &mut Meter) -> Optio
 // A write of one slot, and then one of each number of tails, of which the last has from 274 to 4096 bytes.
 #[test]
 fn a_request_is_found_in_its_slots(rt: HostRuntime) -> Result<(), Fail> {
-    for (tails, set) in [
-        (0, 0),
-        (1, 2),
-        (2, 6),
-        (3, 14),
-        (4, 30),
-        (5, 62),
-        (6, 126),
-        (7, 254),
-        (8, 510),
-        (9, 1022),
-        (10, 2046),
-        (11, 4094),
-        (12, 8190),
-        (13, 16_382),
-        (14, 32_766),
-        (15, 65_534),
-    ] {
+    for tails in 0..16_usize {
+        // The bits from 1 on, one for each tail.
+        let set = (2_u64 << tails).wrapping_sub(2);
         let count = 4369 * tails + 1;
         let request = write(rt.alloc(), count)?;
         let mut meter = Meter::calm(rt.alloc());
@@ -143,12 +128,12 @@ fn a_request_is_found_in_its_slots(rt: HostRuntime) -> Result<(), Fail> {
 fn left(region: &mut MemRegion, pick: u64) -> ([u64; 6], usize) {
     region.crash(&mut Pick::new(pick));
     let mut fields = [0; 6];
-    let mut letters = 0;
+    let mut letters = 0_usize;
     for (at, word) in region.words().iter().enumerate() {
         if at < 6 {
             fields[at] = *word;
         } else if *word == 0x6161_6161_6161_6161 {
-            letters += 1;
+            letters = letters.saturating_add(1);
         }
     }
     (fields, letters)
