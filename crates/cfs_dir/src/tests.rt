@@ -349,15 +349,18 @@ fn rename_in_halves(rt: HostRuntime) -> Result<(), Fail> {
     let Ok(moved) = tree.node_to_move(credential, &from, &to) else {
         return Err("refused")?;
     };
-    let node = moved.node;
-    let change = Change::Move {
+    assert!(rt; tree.lookup(credential, &from).is_ok());
+    let change = moved.change();
+    tree.move_node(&moved);
+    let Ok(node) = tree.lookup(credential, &to) else {
+        return Err("lost")?;
+    };
+    assert_eq!(rt; node.ino, 2);
+    let wanted = Change::Move {
         node,
         replaced: Some(2),
     };
-    assert!(rt; moved.change() == change);
-    assert!(rt; tree.lookup(credential, &from).is_ok());
-    tree.move_node(&moved);
-    assert!(rt; tree.lookup(credential, &to) == Ok(node));
+    assert!(rt; change == wanted);
     assert!(rt; tree.lookup(credential, &from) == Err(TreeRefusal::Refused(Posix::NotFound)));
     Ok(())
 }
