@@ -90,7 +90,7 @@ fn text_of(alloc: Global, number: u64, answer: Printed) -> Result<Bytes, NoMemor
 fn each_answer_has_its_text(rt: HostRuntime) -> Result<(), Fail> {
     let mut number = 0;
     for text in ANSWERS {
-        number += 1;
+        number = number.saturating_add(1);
         let line = text_of(rt.alloc(), number, answer_of(number))?;
         assert_eq!(rt; line.as_slice(), text.as_bytes(), "{text}");
     }
@@ -134,7 +134,7 @@ const ERRORS: [(&str, &str); 12] = [
 fn errors_have_their_names(rt: HostRuntime) -> Result<(), Fail> {
     let mut place = 0;
     for (alone, at) in ERRORS {
-        place += 1;
+        place = place.saturating_add(1);
         let error = error_of(place);
         let line = text_of(rt.alloc(), 7, Printed::Refused { error })?;
         assert_eq!(rt; line.as_slice(), alone.as_bytes());
