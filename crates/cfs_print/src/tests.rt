@@ -88,7 +88,7 @@ fn text_of(alloc: Global, number: u64, answer: Printed) -> Result<Bytes, NoMemor
 
 #[test]
 fn each_answer_has_its_text(rt: HostRuntime) -> Result<(), Fail> {
-    let mut number = 0;
+    let mut number = 0_u64;
     for text in ANSWERS {
         number = number.saturating_add(1);
         let line = text_of(rt.alloc(), number, answer_of(number))?;
@@ -132,7 +132,7 @@ const ERRORS: [(&str, &str); 12] = [
 
 #[test]
 fn errors_have_their_names(rt: HostRuntime) -> Result<(), Fail> {
-    let mut place = 0;
+    let mut place = 0_u64;
     for (alone, at) in ERRORS {
         place = place.saturating_add(1);
         let error = error_of(place);
