@@ -1,5 +1,5 @@
 -- An index that is filled record by record.
-use Rattle.std.proofs.Common.{◌≡◌, ℕ, zero, suc, ◌+◌, ◌≤◌, ◌<◌, List, [], ◌∷◌, length, take, cond, inl, inr, refl, sym, ◌∙◌, ap, subst, add-one, arith}
+use Rattle.std.proofs.Common.{◌≡◌, ℕ, zero, suc, ◌+◌, ◌≤◌, ◌<◌, List, [], ◌∷◌, ◌++◌, length, take, cond, inl, inr, refl, sym, ◌∙◌, ap, subst, add-one, arith}
 use Rattle.std.specs.Prelude.{All, Option, Some, None, is_some, nat_lt, slice_get}
 use Rattle.std.specs.HashMap.{get, hash_map_len, spare}
 use Rattle.std.specs.Option.{option_and_then, option_map}
@@ -23,6 +23,14 @@ take-none zero (None ∷ slots) e = refl
 take-none zero (Some node ∷ slots) e = absurd (cc)
 take-none (suc i) (None ∷ slots) e = take-none i slots e
 take-none (suc i) (Some node ∷ slots) e = ap (λ ns. node ∷ ns) (take-none i slots e)
+
+pub take-last : (i : ℕ) (slots : List (Option Node)) (node : Node) → slot_in slots i ≡ Some node
+    → nodes_of (take (suc i) slots) ≡ nodes_of (take i slots) ++ node ∷ []
+take-last i [] node e = absurd (cc)
+take-last zero (None ∷ slots) node e = absurd (cc)
+take-last zero (Some other ∷ slots) node e = let one : other ≡ node = cc in ap (λ n. n ∷ []) one
+take-last (suc i) (None ∷ slots) node e = take-last i slots node e
+take-last (suc i) (Some other ∷ slots) node e = ap (λ ns. other ∷ ns) (take-last i slots node e)
 
 -- the node of a slot has the slot's record
 slot-record : (first i : ℕ) (slots : List (Option Node)) (node : Node) → AreAtRecords first slots → slot_in slots i ≡ Some node

@@ -6,6 +6,7 @@ ghost use Rattle.cfs_dir.specs.Table.{AreListed, IsTableOf};
 ghost use Rattle.cfs_dir.specs.Path.{ArePathNames};
 ghost use Rattle.cfs_dir.specs.Tree.{CanBeTakenBack, CanJoin, CanLeave, IsTree, root_of};
 
+mod copy;
 mod rename;
 
 use crate::child::Child;
