@@ -1,0 +1,5 @@
+pub mod Joint
+pub mod Worlds
+pub mod Recovering
+pub mod Ends
+pub mod Tellable
