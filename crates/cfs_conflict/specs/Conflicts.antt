@@ -1,5 +1,5 @@
--- The entries and the reads of a file, and what stands in whose way. A place is at least 1, and below
--- the greatest number of 64 bits.
+-- The entries and the reads of a file, and what stands in whose way. A place is at least 1, and
+-- below the greatest number of 64 bits.
 use Rattle.std.specs.Prelude.{ℕ, ◌+◌, ◌^◌, ◌<◌, ◌⊎◌, List, nat_lt, cond, IsSomeAnd, MatchOption, Bool, true, false}
 use Rattle.cfs_file.specs.declared.span.Span.{Span}
 use Rattle.cfs_file.specs.declared.span.Span.TheVariants.{Nothing, Range, From}
@@ -37,28 +37,33 @@ IsFit (From from) = from + 1 < 2 ^ 64
 abbrev pub added : ℕ → Span → List (ℕ × Span) → List (ℕ × Span)
 added place span spans = cond (some_position span) (insert_in_order (place, span) spans) spans
 
--- A place that this one waits for: an entry for any below it that overlaps, a read for an entry alone.
+-- A place that this one waits for: an entry for any below it that overlaps, a read for
+-- an entry alone.
 abbrev pub Blocks : Lists → ℕ → ℕ → Type 0
 Blocks lists place n =
     MatchOption (span_at lists.entries place)
     (IsSomeAnd (span_at lists.reads place) (λ span. OverlapsBetween lists.entries span 0 place n))
-    (λ span. OverlapsBetween lists.entries span 0 place n ⊎ OverlapsBetween lists.reads span 0 place n)
+    (λ span. OverlapsBetween lists.entries span 0 place n
+    ⊎ OverlapsBetween lists.reads span 0 place n)
 
 -- a read with a place between the two overlaps the first, which is an entry
 abbrev pub IsReadBetween : Lists → ℕ → ℕ → ℕ → Type 0
 IsReadBetween lists first last read =
-    IsSomeAnd (span_at lists.entries first) (λ span. OverlapsBetween lists.reads span first last read)
+    IsSomeAnd (span_at lists.entries first)
+    (λ span. OverlapsBetween lists.reads span first last read)
 
 -- an entry between the two that the entry of this place covers, and that no read between needs
 abbrev pub IsToMark : Lists → ℕ → ℕ → ℕ → Type 0
 IsToMark lists place after n =
-    IsSomeAnd (span_at lists.entries place) (λ span. CoveredBetween lists.entries span after place n)
+    IsSomeAnd (span_at lists.entries place)
+    (λ span. CoveredBetween lists.entries span after place n)
     × ((read : ℕ) → IsReadBetween lists n place read → ⊥)
 
 -- a read above the entry of this place that overlaps it
 abbrev pub IsReaderOf : Lists → ℕ → ℕ → Type 0
 IsReaderOf lists place n =
-    IsSomeAnd (span_at lists.entries place) (λ span. OverlapsBetween lists.reads span place 18446744073709551615 n)
+    IsSomeAnd (span_at lists.entries place)
+    (λ span. OverlapsBetween lists.reads span place 18446744073709551615 n)
 
 -- the answer whether there is such a read
 abbrev pub ReadBetween : Bool → Lists → ℕ → ℕ → Type 0

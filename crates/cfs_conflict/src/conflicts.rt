@@ -10,8 +10,8 @@ use std::alloc::Global;
 use std::marker::{Brand, Model};
 use std::sync::ledger::Blank;
 
-/// The live entries and the unserved reads of a file, each by its place with its span. It has no field
-/// but their two trees. Every call but `new` and `reserve` takes no memory.
+/// The live entries and the unserved reads of a file, each by its place with its span. It has no
+/// field but their two trees. Every call but `new` and `reserve` takes no memory.
 #[derive(Drop)]
 pub struct Conflicts {
     entries: SpanTree,
@@ -87,7 +87,8 @@ impl Conflicts {
 
     /// Keeps a place no longer, and answers whether it was an entry's or a read's.
     pub fn remove(&mut self, place: u64) -> bool
-        ensures kept { IsTrue result ↔ (IsSome (span_at self.old.entries place) ⊎ IsSome (span_at self.old.reads place)) }
+        ensures kept { IsTrue result ↔
+            (IsSome (span_at self.old.entries place) ⊎ IsSome (span_at self.old.reads place)) }
         ensures entries { self.new.entries ≡ without_place place self.old.entries }
         ensures reads { self.new.reads ≡ without_place place self.old.reads }
         ensures entry_room { self.old.entry_spare ≤ self.new.entry_spare }
@@ -98,24 +99,25 @@ impl Conflicts {
         was_entry || was_read
     }
 
-    /// The smallest place that an entry or a read must wait for: for an entry, the smallest below it, in
-    /// either list, whose span overlaps; for a read, the smallest such place among the entries. None
-    /// exactly where there is none.
+    /// The smallest place that an entry or a read must wait for: for an entry, the smallest below
+    /// it, in either list, whose span overlaps; for a read, the smallest such place among the
+    /// entries. None exactly where there is none.
     pub fn blocker(&self, place: u64) -> Option<u64>
         ensures { IsLeast (Blocks self.now place) result }
     {
         blocker_of::<Brand>(&self.entries, &self.reads, place, Blank::new(1))
     }
 
-    /// The smallest entry above `after` and below the entry `place` that this one covers and that no
-    /// read with a place between the two overlaps. None exactly where there is none.
+    /// The smallest entry above `after` and below the entry `place` that this one covers and that
+    /// no read with a place between the two overlaps. None exactly where there is none.
     pub fn next_to_mark(&self, place: u64, after: u64) -> Option<u64>
         ensures { IsLeast (IsToMark self.now place after) result }
     {
         to_mark_of::<Brand>(&self.entries, &self.reads, place, after, Blank::new(1))
     }
 
-    /// The smallest read above the entry `place` that overlaps it. None exactly where there is none.
+    /// The smallest read above the entry `place` that overlaps it. None exactly where
+    /// there is none.
     pub fn reader_after(&self, place: u64) -> Option<u64>
         ensures { IsLeast (IsReaderOf self.now place) result }
     {

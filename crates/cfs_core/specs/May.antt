@@ -140,8 +140,8 @@ must_wait core place =
     if is_sync_at core.log place then has_live core.tracks place
     else meets_live core.tracks place (track core.tracks place).span
 
--- Unserved; where bytes are given, it need not wait for an earlier entry, no needed block is out, and
--- they are the stored ones.
+-- Unserved; where bytes are given, it need not wait for an earlier entry, no needed block is out,
+-- and they are the stored ones.
 abbrev pub may_serve : Core → ℕ → Option (List ℕ) → Bool
 may_serve core place None = is_unserved (track core.tracks place).state
 may_serve core place (Some bytes) =

@@ -20,7 +20,8 @@ grants digit Read = digit / 4 % 2 == 1
 grants digit Write = digit / 2 % 2 == 1
 grants digit Search = digit % 2 == 1
 
--- the one digit that decides for a user who is not the superuser: the first class that the user is in
+-- the one digit that decides for a user who is not the superuser: the first class that the
+-- user is in
 abbrev pub deciding_digit : ℕ → ℕ → ℕ → Credential → ℕ
 deciding_digit mode uid gid credential =
     if credential.uid == uid then owner_digit mode

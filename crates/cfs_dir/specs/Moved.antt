@@ -36,10 +36,13 @@ pub record IsReplaced (namespace : Namespace) (node other : Node) : Type 0 where
   pub kind : other.kind ≡ node.kind
   pub empty : has_child namespace.nodes other.ino ≡ false
 
--- a move that a tree allows: the node stands in it, its new name is free but for the node that it replaces, and the tree after it is one
+-- a move that a tree allows: the node stands in it, its new name is free but for the node that it
+-- replaces, and the tree after it is one
 pub record CanMove (namespace : Namespace) (moved : Moved) : Type 0 where
   pub stands : IsSomeAnd (node_at namespace.nodes moved.node.rec) (IsSameNode moved.node)
   pub moves : moved.node.rec ≢ 0
   pub replaces : ForSome moved.replaced (IsReplaced namespace moved.node)
-  pub unnamed : child_of (without moved.node.rec (without_replaced (replaced_of moved) namespace.nodes)) moved.node.parent moved.node.name ≡ None
+  pub unnamed : child_of
+      (without moved.node.rec (without_replaced (replaced_of moved) namespace.nodes))
+      moved.node.parent moved.node.name ≡ None
   pub whole : IsTree (with_move namespace moved).nodes namespace.next

@@ -5,7 +5,8 @@ use Rattle.std.specs.Str.{bytes_eq}
 -- a letter, a digit, `.`, `_` or `-`
 abbrev pub is_name_byte : ℕ → Bool
 is_name_byte byte =
-    (nat_le 97 byte && nat_le byte 122) || (nat_le 65 byte && nat_le byte 90) || (nat_le 48 byte && nat_le byte 57)
+    (nat_le 97 byte && nat_le byte 122) || (nat_le 65 byte && nat_le byte 90)
+    || (nat_le 48 byte && nat_le byte 57)
     || (byte == 46) || (byte == 95) || (byte == 45)
 
 abbrev pub AreNameBytes : List ℕ → Type 0

@@ -36,7 +36,8 @@ is_directory File = false
 -- the nodes with one more, before the first of a greater record
 abbrev pub placed : Node → List Node → List Node
 placed node [] = node ∷ []
-placed node (first ∷ rest) = if nat_lt first.rec node.rec then first ∷ placed node rest else node ∷ first ∷ rest
+placed node (first ∷ rest) =
+    if nat_lt first.rec node.rec then first ∷ placed node rest else node ∷ first ∷ rest
 
 -- the nodes but that of a record
 abbrev pub without : ℕ → List Node → List Node
@@ -48,7 +49,8 @@ with_node namespace node = record { nodes = placed node namespace.nodes; next = 
 
 -- the namespace after a node is removed; its inode number is not used again
 abbrev pub without_node : Namespace → Node → Namespace
-without_node namespace node = record { nodes = without node.rec namespace.nodes; next = namespace.next }
+without_node namespace node =
+    record { nodes = without node.rec namespace.nodes; next = namespace.next }
 
 -- the namespace before this node was made, where it was made last
 abbrev pub without_last : Namespace → Node → Namespace

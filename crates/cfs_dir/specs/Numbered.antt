@@ -1,4 +1,5 @@
--- How the nodes are kept: each by its inode number, beside the inode number of the node of each record.
+-- How the nodes are kept: each by its inode number, beside the inode number of the node
+-- of each record.
 use Rattle.std.specs.Prelude.{◌≡◌, ◌≢◌, ℕ, suc, List, [], ◌∷◌, Option, None, Some, IsSomeAnd, length, map, nat_eq}
 use Rattle.std.specs.HashMap.{get, HashMap}
 use Rattle.std.specs.declared.hash.FoldHasher.{FoldHasher}
@@ -20,12 +21,14 @@ slots_of by_number numbers = map (slot_of by_number) numbers
 -- the inode number of a record finds a node that has that number and that record
 abbrev pub FindsOwn : NodeMap → ℕ → Option ℕ → Type 0
 FindsOwn by_number rec None = Unit {0}
-FindsOwn by_number rec (Some number) = IsSomeAnd (get nat_eq by_number number) (λ node. (node.ino ≡ number) × (node.rec ≡ rec))
+FindsOwn by_number rec (Some number) =
+    IsSomeAnd (get nat_eq by_number number) (λ node. (node.ino ≡ number) × (node.rec ≡ rec))
 
 -- each record's inode number finds its node, where the first is that of record `first`
 abbrev pub AreNumbered : NodeMap → ℕ → List (Option ℕ) → Type 0
 AreNumbered by_number first [] = Unit {0}
-AreNumbered by_number first (number ∷ numbers) = FindsOwn by_number first number × AreNumbered by_number (suc first) numbers
+AreNumbered by_number first (number ∷ numbers) =
+    FindsOwn by_number first number × AreNumbered by_number (suc first) numbers
 
 -- no record has this inode number
 abbrev pub IsAbsent : ℕ → List (Option ℕ) → Type 0

@@ -17,18 +17,23 @@ abbrev pub padded : List ℕ → List ℕ
 padded name = name ++ replicate (40 - length name) 0
 
 pub length-name : (bytes : List ℕ) (len : ℕ) → IsPadded bytes len → length (take len bytes) ≡ len
-length-name bytes len h = length-take-le len bytes (let s = h.short in let w = h.whole in omega arith)
+length-name bytes len h =
+    length-take-le len bytes (let s = h.short in let w = h.whole in omega arith)
 
 pub padded-name : (bytes : List ℕ) (len : ℕ) → IsPadded bytes len → padded (take len bytes) ≡ bytes
 padded-name bytes len h =
-    rw (length-name bytes len h) (ap (λ zeros. take len bytes ++ zeros) (sym h.zeroed) ∙ take-append-drop len bytes)
+    rw (length-name bytes len h)
+    (ap (λ zeros. take len bytes ++ zeros) (sym h.zeroed) ∙ take-append-drop len bytes)
 
 -- a name that is written over 40 zero bytes
-pub IsPadded-written : (written name : List ℕ) → written ≡ name → length name ≤ 40 → AreNameBytes name
-    → IsPadded (written ++ drop (length name) (replicate 40 0)) (length name)
+pub IsPadded-written : (written name : List ℕ) → written ≡ name → length name ≤ 40
+    → AreNameBytes name → IsPadded (written ++ drop (length name) (replicate 40 0)) (length name)
 IsPadded-written written name same short readable = rw same (record {
   short = short;
-  whole = length-append name (drop (length name) (replicate 40 0)) ∙ (rw (drop-replicate {X = ℕ} (length name) 40 0, length-replicate) (omega arith));
-  zeroed = drop-append_seam name (drop (length name) (replicate 40 0)) ∙ drop-replicate {X = ℕ} (length name) 40 0;
-  readable = subst AreNameBytes (sym (take-append_seam name (drop (length name) (replicate 40 0)))) readable;
+  whole = length-append name (drop (length name) (replicate 40 0))
+      ∙ (rw (drop-replicate {X = ℕ} (length name) 40 0, length-replicate) (omega arith));
+  zeroed = drop-append_seam name (drop (length name) (replicate 40 0))
+      ∙ drop-replicate {X = ℕ} (length name) 40 0;
+  readable = subst AreNameBytes
+      (sym (take-append_seam name (drop (length name) (replicate 40 0)))) readable;
 })

@@ -1,4 +1,5 @@
--- What a rename answers: the tests of the two paths, of the node and of the place where it goes, in their order.
+-- What a rename answers: the tests of the two paths, of the node and of the place where it goes,
+-- in their order.
 use Rattle.std.specs.Prelude.{ℕ, zero, suc, ◌+◌, ◌-◌, ◌==◌, List, length, Bool, false, not, ◌||◌, ◌&&◌, nat_lt, Option, Some, None, Result, Ok, Err, if◌then◌else◌, is_some}
 use Rattle.std.specs.List.{list_any}
 use Rattle.std.specs.Option.{option_and_then, option_map}
@@ -17,15 +18,18 @@ use Rattle.cfs_dir.specs.Step.{and_then, has_right, is_too_long, place_of}
 -- the refusals that two paths alone give, in their order
 abbrev pub paths_refusal : List (List ℕ) → List (List ℕ) → Option Posix
 paths_refusal from to =
-    if list_any is_dots from || list_any is_dots to || (length from == 0) || (length to == 0) then Some InvalidArgument
+    if list_any is_dots from || list_any is_dots to || (length from == 0) || (length to == 0)
+    then Some InvalidArgument
     else (if is_too_long from || is_too_long to then Some NameTooLong else None)
 
--- by how many names a node stands below another, if it does by so many at most; `find` finds the node of an inode number
+-- by how many names a node stands below another, if it does by so many at most; `find` finds the
+-- node of an inode number
 unfoldable pub names_below : ℕ → (ℕ → Option Node) → ℕ → ℕ → Option ℕ
 names_below zero find top ino = if ino == top then Some 0 else None
 names_below (suc most) find top ino =
     if ino == top then Some 0
-    else option_map (λ names. names + 1) (option_and_then (λ node. names_below most find top node.parent) (find ino))
+    else option_map (λ names. names + 1)
+    (option_and_then (λ node. names_below most find top node.parent) (find ino))
 
 -- whether a node is another or stands below it
 abbrev pub is_within : List Node → ℕ → ℕ → Bool
@@ -62,7 +66,8 @@ is_occupied nodes (Some other) = is_directory other.kind && has_child nodes othe
 
 -- The refusal of a move of a node from one directory to another, by the first test that fails; a
 -- file has the names of its new path, which are not too many.
-abbrev pub move_refusal : List Node → Credential → Node → Node → Node → Option Node → ℕ → Option Posix
+abbrev pub move_refusal : List Node → Credential → Node → Node → Node → Option Node → ℕ
+    → Option Posix
 move_refusal nodes credential parent node directory there names =
     if is_directory node.kind && is_within nodes node.ino directory.ino then Some InvalidArgument
     else if is_directory node.kind && is_file_there there then Some NotADirectory
@@ -93,10 +98,13 @@ moved_from nodes credential to (Entry parent name None) = Err NotFound
 moved_from nodes credential to (Entry parent name (Some node)) =
     and_then (place_of nodes credential to) (moved_to nodes credential (length to) parent node)
 
-abbrev pub renamed_unless : Option Posix → List Node → Credential → List (List ℕ) → List (List ℕ) → Result Moved Posix
+abbrev pub renamed_unless : Option Posix → List Node → Credential → List (List ℕ)
+    → List (List ℕ) → Result Moved Posix
 renamed_unless (Some refusal) nodes credential from to = Err refusal
-renamed_unless None nodes credential from to = and_then (place_of nodes credential from) (moved_from nodes credential to)
+renamed_unless None nodes credential from to =
+    and_then (place_of nodes credential from) (moved_from nodes credential to)
 
 -- the node that is moved from a path to another
 abbrev pub renamed : Namespace → Credential → List (List ℕ) → List (List ℕ) → Result Moved Posix
-renamed namespace credential from to = renamed_unless (paths_refusal from to) namespace.nodes credential from to
+renamed namespace credential from to =
+    renamed_unless (paths_refusal from to) namespace.nodes credential from to

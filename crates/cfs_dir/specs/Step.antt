@@ -1,4 +1,5 @@
--- What each call on the tree answers: a walk by names over the list of nodes, and then the tests of the call in their order.
+-- What each call on the tree answers: a walk by names over the list of nodes, and then the tests of
+-- the call in their order.
 use Rattle.std.specs.Prelude.{◌≡◌, ℕ, List, [], ◌∷◌, Bool, not, ◌||◌, nat_lt, Option, Some, None, Result, Ok, Err, length, if◌then◌else◌}
 use Rattle.std.specs.List.{list_any}
 use Rattle.cfs_cred.specs.declared.credential.Credential.{Credential}
@@ -45,16 +46,19 @@ found_directory (Some node) = unless (is_directory node.kind) NotADirectory (Ok 
 
 abbrev pub entered : List Node → Credential → Node → List ℕ → Result Node Posix
 entered nodes credential directory name =
-    unless (has_right credential directory Search) PermissionDenied (found_directory (child_of nodes directory.ino name))
+    unless (has_right credential directory Search) PermissionDenied
+    (found_directory (child_of nodes directory.ino name))
 
--- where the names lead to from a directory: through each name but the last, and then to the last in its directory
+-- where the names lead to from a directory: through each name but the last, and then to the last
+-- in its directory
 abbrev pub walk : List Node → Credential → Node → List (List ℕ) → Result Place Posix
 walk nodes credential directory [] = Ok (Root directory)
 walk nodes credential directory (name ∷ []) =
     unless (has_right credential directory Search) PermissionDenied
     (Ok (Entry directory name (child_of nodes directory.ino name)))
 walk nodes credential directory (name ∷ next ∷ names) =
-    and_then (entered nodes credential directory name) (λ child. walk nodes credential child (next ∷ names))
+    and_then (entered nodes credential directory name)
+    (λ child. walk nodes credential child (next ∷ names))
 
 abbrev pub walk_from : Option Node → List Node → Credential → List (List ℕ) → Result Place Posix
 walk_from None nodes credential path = Err NotFound
@@ -75,10 +79,13 @@ looked_up_at (Entry directory name None) = Err NotFound
 looked_up_at (Entry directory name (Some node)) = Ok node
 
 abbrev pub looked_up : Namespace → Credential → List (List ℕ) → Result Node Posix
-looked_up namespace credential path = and_then (place_of namespace.nodes credential path) looked_up_at
+looked_up namespace credential path =
+    and_then (place_of namespace.nodes credential path) looked_up_at
 
--- the node that is made in a directory, with the given record and the next inode number where there are both
-abbrev pub new_node : Namespace → Credential → Node → List ℕ → Kind → ℕ → Option ℕ → Result Node Posix
+-- the node that is made in a directory, with the given record and the next inode number where
+-- there are both
+abbrev pub new_node : Namespace → Credential → Node → List ℕ → Kind → ℕ → Option ℕ
+    → Result Node Posix
 new_node namespace credential directory name kind mode None = Err TooManyFiles
 new_node namespace credential directory name kind mode (Some rec) =
     unless (nat_lt namespace.next 4294967296) TooManyFiles (Ok (record {
@@ -113,7 +120,8 @@ unlinked_at credential (Entry directory name (Some node)) =
 
 -- the file whose name is removed
 abbrev pub unlinked : Namespace → Credential → List (List ℕ) → Result Node Posix
-unlinked namespace credential path = and_then (place_of namespace.nodes credential path) (unlinked_at credential)
+unlinked namespace credential path =
+    and_then (place_of namespace.nodes credential path) (unlinked_at credential)
 
 abbrev pub rmdir_at : List Node → Credential → Place → Result Node Posix
 rmdir_at nodes credential (Root root) = Err InvalidArgument

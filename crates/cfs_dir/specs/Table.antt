@@ -1,4 +1,5 @@
--- How a tree is kept: the node of each record at its place, and an index from a directory and a name to a record.
+-- How a tree is kept: the node of each record at its place, and an index from a directory and a
+-- name to a record.
 use Rattle.std.specs.Prelude.{◌≡◌, ℕ, suc, List, [], ◌∷◌, Bool, false, ◌&&◌, ◌==◌, Option, None, Some, All, ◌<◌, length, cond}
 use Rattle.std.specs.Option.{option_map}
 use Rattle.std.specs.Str.{bytes_eq}
@@ -39,12 +40,15 @@ same_child a b = (a.parent == b.parent) && bytes_eq a.name b.name
 
 -- the index finds a value at one key, and what it found before at every other key
 abbrev pub IsUpdated : Index → Index → Child → Option ℕ → Type 0
-IsUpdated old new key value = (child : Child) → get same_child new child ≡ cond (same_child key child) value (get same_child old child)
+IsUpdated old new key value =
+    (child : Child) → get same_child new child ≡
+    cond (same_child key child) value (get same_child old child)
 
 -- the index finds the record of each node by the node's directory and name
 abbrev pub IsIndex : List Node → Index → Type 0
 IsIndex nodes index =
-    (child : Child) → get same_child index child ≡ option_map (λ node. node.rec) (child_of nodes child.parent child.name)
+    (child : Child) → get same_child index child ≡
+    option_map (λ node. node.rec) (child_of nodes child.parent child.name)
 
 -- where a node stands in the index
 abbrev pub key_of : Node → Child
@@ -66,14 +70,17 @@ pub record IsTable (slots : List (Option Node)) (index : Index) (next : ℕ) : T
 pub record IsRenamed (index : Index) (slots : List (Option Node)) (old node : Node) : Type 0 where
   pub size : length slots ≡ 256
   pub at_records : AreAtRecords 0 slots
-  pub name_once : All (λ node. child_of (nodes_of slots) node.parent node.name ≡ Some node) (nodes_of slots)
+  pub name_once : All (λ node. child_of (nodes_of slots) node.parent node.name ≡ Some node)
+      (nodes_of slots)
   pub count : hash_map_len index ≡ length (nodes_of slots)
   pub found : get same_child index (key_of old) ≡ Some node.rec
-  pub shut : (removed : Index) → IsUpdated index removed (key_of old) None → get same_child removed (key_of node) ≡ None
+  pub shut : (removed : Index) → IsUpdated index removed (key_of old) None
+      → get same_child removed (key_of node) ≡ None
   pub others : (removed new : Index) → IsUpdated index removed (key_of old) None
       → IsUpdated removed new (key_of node) (Some node.rec) → IsIndex (nodes_of slots) new
 
--- nodes that a table can hold: their records ascend and are below 256, and no two have one number, or one name in one directory
+-- nodes that a table can hold: their records ascend and are below 256, and no two have one number,
+-- or one name in one directory
 pub record AreListed (nodes : List Node) : Type 0 where
   pub ascending : AreAscendingFrom 0 nodes
   pub records : All (λ node. node.rec < 256) nodes

@@ -15,8 +15,16 @@ pub record IsRoot (node : Node) : Type 0 where
 
 -- the root of a new tree
 abbrev pub root_of : ℕ → ℕ → ℕ → Node
-root_of mode uid gid =
-    record { ino = 1; parent = 1; name = []; kind = Directory; mode = mode; uid = uid; gid = gid; rec = 0 }
+root_of mode uid gid = record {
+  ino = 1;
+  parent = 1;
+  name = [];
+  kind = Directory;
+  mode = mode;
+  uid = uid;
+  gid = gid;
+  rec = 0;
+}
 
 -- the nodes stand by ascending record, and the first record is at least `least`
 abbrev pub AreAscendingFrom : ℕ → List Node → Type 0
@@ -30,7 +38,8 @@ leads_to_root (suc steps) nodes ino =
     if ino == 1 then true
     else option_map_or (λ node. leads_to_root steps nodes node.parent) (node_of nodes ino) false
 
--- `next` is the next inode number; a node is the one that its inode number finds, and the one that its parent and name find
+-- `next` is the next inode number; a node is the one that its inode number finds, and the one that
+-- its parent and name find
 pub record IsTree (nodes : List Node) (next : ℕ) : Type 0 where
   pub next_low : 2 ≤ next
   pub next_high : next ≤ 2 ^ 32
@@ -43,10 +52,12 @@ pub record IsTree (nodes : List Node) (next : ℕ) : Type 0 where
   pub owners : All (λ node. (node.uid < 2 ^ 32) × (node.gid < 2 ^ 32)) nodes
   pub names : All (λ node. node.ino ≢ 1 → IsNodeName node.name) nodes
   pub name_once : All (λ node. child_of nodes node.parent node.name ≡ Some node) nodes
-  pub parents : All (λ node. IsSomeAnd (node_of nodes node.parent) (λ parent. parent.kind ≡ Directory)) nodes
+  pub parents : All (λ node. IsSomeAnd (node_of nodes node.parent)
+      (λ parent. parent.kind ≡ Directory)) nodes
   pub depths : All (λ node. IsTrue (leads_to_root 16 nodes node.ino)) nodes
 
--- a node that may join a tree: it has the next inode number, its record and its name are free, and the tree with it is one
+-- a node that may join a tree: it has the next inode number, its record and its name are free, and
+-- the tree with it is one
 pub record CanJoin (namespace : Namespace) (node : Node) : Type 0 where
   pub number : node.ino ≡ namespace.next
   pub free : node_at namespace.nodes node.rec ≡ None

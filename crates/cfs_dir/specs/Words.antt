@@ -65,9 +65,11 @@ change_words (changes.Move node replaced) =
 -- the change that fifteen words tell
 abbrev pub change_in : List ℕ → Change
 change_in words =
-    if get_or words 0 0 == 1 then changes.Create (node_in (get_or words 1 0) (take 12 (drop 2 words)))
+    if get_or words 0 0 == 1 then
+    changes.Create (node_in (get_or words 1 0) (take 12 (drop 2 words)))
     else if get_or words 0 0 == 3 then
-    changes.Move (node_in (get_or words 1 0) (take 12 (drop 2 words))) (replaced_in (get_or words 14 0))
+    changes.Move (node_in (get_or words 1 0) (take 12 (drop 2 words)))
+    (replaced_in (get_or words 14 0))
     else changes.Remove (get_or words 1 0) (get_or words 2 0)
 
 -- the words of n records of a table, from one on: those of a free record are 0

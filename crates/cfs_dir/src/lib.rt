@@ -3,8 +3,8 @@
 //!
 //! A tree is seen as the list of its nodes, by ascending record, and the next inode number. What
 //! each call answers is a walk by names over that list (specs/Step.antt), which the code never
-//! makes: it finds each name of a path by one look-up in an index from directory and name to record,
-//! and one of the record's inode number among the nodes.
+//! makes: it finds each name of a path by one look-up in an index from directory and name to
+//! record, and one of the record's inode number among the nodes.
 //! After POSIX.1-2017, Base Definitions, section 4.13; the bounds, the record numbers and the order
 //! of the refusals are this project's own.
 #![tactic(auto)]

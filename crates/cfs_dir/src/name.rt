@@ -33,7 +33,8 @@ impl Model for Name {
     ghost use Rattle.std.proofs.Common.{ap₂};
     ghost use Rattle.cfs_dir.specs.Padding.{padded-name, length-name};
 
-    ghost inverse_ok = { λ n h. ap₂ (λ bytes len. record { bytes = bytes; len = len }) (padded-name n.bytes n.len h) (length-name n.bytes n.len h) };
+    ghost inverse_ok = { λ n h. ap₂ (λ bytes len. record { bytes = bytes; len = len })
+        (padded-name n.bytes n.len h) (length-name n.bytes n.len h) };
 }
 
 impl Name {

@@ -78,7 +78,8 @@ impl Nodes {
         }
     }
 
-    /// Puts a node in place of the one of its record, which has its inode number. It takes no memory.
+    /// Puts a node in place of the one of its record, which has its inode number. It
+    /// takes no memory.
     pub(crate) fn replace(&mut self, node: &Node)
         requires { IsSomeAnd (option_and_then (λ slot. slot) (slice_get self.old node.now.rec))
             (λ old. old.ino ≡ node.now.ino) }
@@ -113,7 +114,8 @@ impl Nodes {
 
 /// Whether the node of some record stands in a directory.
 fn some_stands_in(by_number: &IndexMap<u64, Node>, numbers: &[Option<u64>], parent: u64) -> bool
-    ensures { result ≡ list_any (λ number. stands_in parent (slot_of by_number.now number)) numbers.now }
+    ensures { result ≡
+        list_any (λ number. stands_in parent (slot_of by_number.now number)) numbers.now }
 {
     numbers
         .iter()

@@ -131,7 +131,8 @@ impl Path {
     /// `.`, `_` and `-` (own).
     pub fn parse(alloc: Global, text: &[u8]) -> Result<Self, PathRefusal>
         ensures parsed { IfOk result (IsPathText text.now) }
-        ensures malformed { result ≡ Err PathRefusal.Malformed → (names : List (List ℕ)) → ¬ IsPathText text.now names }
+        ensures malformed { result ≡ Err PathRefusal.Malformed →
+            (names : List (List ℕ)) → ¬ IsPathText text.now names }
     {
         let mut names = Vec::new(alloc);
         if is_root(text) {
@@ -189,7 +190,8 @@ fn split_name(text: &[u8]) -> Option<(&[u8], &[u8])>
     ensures begins { IsSome result ↔ BeginsWithSlash text.now }
     ensures parts { IfSome result (λ parts. text.now ≡ 47 ∷ (parts.0.now ++ parts.1.now)) }
     ensures name { IfSome result (λ parts. parts.0.now ≡ before_first is_slash (drop 1 text.now)) }
-    ensures after { IfSome result (λ parts. parts.1.now ≡ drop (position_or_len is_slash (drop 1 text.now)) (drop 1 text.now)) }
+    ensures after { IfSome result (λ parts.
+        parts.1.now ≡ drop (position_or_len is_slash (drop 1 text.now)) (drop 1 text.now)) }
 {
     let (first, tail) = text.split_first()?;
     if *first != b'/' {

@@ -70,7 +70,8 @@ impl Tree {
     /// The tree of a new file system, which has a root alone.
     pub fn with_root(alloc: Global, mode: u16, uid: u32, gid: u32) -> Result<Self, AllocError>
         requires { mode ≤ 511 }
-        ensures { IfOk result (λ tree. tree ≡ record { nodes = root_of mode uid gid ∷ []; next = 2 }) }
+        ensures { IfOk result (λ tree.
+            tree ≡ record { nodes = root_of mode uid gid ∷ []; next = 2 }) }
     {
         let root = Node {
             ino: 1,
@@ -105,10 +106,10 @@ impl Tree {
     /// The node at a path.
     ///
     /// Refused as every call: a name `.` or `..` with InvalidArgument, a name of more than 40 bytes
-    /// or more than 16 names with NameTooLong; then, from the root on, a directory without the right
-    /// to search with PermissionDenied, a name that is not there with NotFound, and a file in the
-    /// middle of the path with NotADirectory. (POSIX.1-2017, Base Definitions, section 4.13; that
-    /// the names `.` and `..` are refused, and the bounds, are own.)
+    /// or more than 16 names with NameTooLong; then, from the root on, a directory without the
+    /// right to search with PermissionDenied, a name that is not there with NotFound, and a file in
+    /// the middle of the path with NotADirectory. (POSIX.1-2017, Base Definitions, section 4.13;
+    /// that the names `.` and `..` are refused, and the bounds, are own.)
     pub fn lookup(&self, credential: Credential, path: &Path) -> Result<Node, TreeRefusal>
         ensures { result ≡ refused (looked_up self.now credential path.now) }
     {
@@ -121,9 +122,9 @@ impl Tree {
 
     /// Makes a file at a path, in the given record, with the next inode number.
     ///
-    /// After the refusals of a path: AlreadyExists where the name is there, PermissionDenied without
-    /// the right to write its directory, TooManyFiles without a record or an inode number. A call
-    /// that is refused, or has no memory, changes nothing.
+    /// After the refusals of a path: AlreadyExists where the name is there, PermissionDenied
+    /// without the right to write its directory, TooManyFiles without a record or an inode number.
+    /// A call that is refused, or has no memory, changes nothing.
     pub fn create(
         &mut self,
         credential: Credential,
@@ -150,7 +151,8 @@ impl Tree {
     ) -> Result<Node, TreeRefusal>
         requires permissions { mode ≤ 511 }
         requires free { ForSome rec (λ rec. (rec < 256) × (node_at self.old.nodes rec ≡ None)) }
-        ensures answer { IsAnswer (made self.old credential path.now Kind.Directory mode rec) result }
+        ensures answer { IsAnswer
+            (made self.old credential path.now Kind.Directory mode rec) result }
         ensures made { IfOk result (λ node. self.new ≡ with_node self.old node) }
         ensures unchanged { OnErr result (self.new ≡ self.old) }
     {
@@ -275,8 +277,8 @@ impl Tree {
         }
     }
 
-    /// The node that `create` or `mkdir` would make at a path, by what it is; nothing is changed. It
-    /// is `insert` that adds it.
+    /// The node that `create` or `mkdir` would make at a path, by what it is; nothing is changed.
+    /// It is `insert` that adds it.
     pub fn node_to_make(
         &self,
         kind: Kind,

@@ -29,8 +29,9 @@ fn kind_word(kind: Kind) -> u64
     }
 }
 
-/// The twelve words of a node: its inode number, its directory's, its kind, mode, owner and group, the
-/// length of its name, and five words with the bytes of its name, filled up with zero bytes (own).
+/// The twelve words of a node: its inode number, its directory's, its kind, mode, owner and group,
+/// the length of its name, and five words with the bytes of its name, filled up with
+/// zero bytes (own).
 pub fn node_words(node: &Node) -> [u64; NODE_WORDS]
     ensures { result ≡ node_words node.now }
 {

@@ -19,7 +19,8 @@ pub record IsLegal (base : List ℕ) (log : List Entry) (given : List (Option An
   pub files : (k : ℕ) → k ≤ length log → IsFile (file_of base (take k log))
   -- each given answer is the answer on the file after the entries before it
   pub answers : (k : ℕ) (entry : Entry) (reply : Answer) → slice_get log k ≡ Some entry →
-      slice_get given k ≡ Some (Some reply) → reply ≡ answer (file_of base (take k log)) entry.request
+      slice_get given k ≡ Some (Some reply) →
+      reply ≡ answer (file_of base (take k log)) entry.request
 
 -- the entries of one caller, in order of place
 abbrev pub own_list : List Entry → ℕ → List Entry

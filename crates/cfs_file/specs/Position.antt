@@ -5,7 +5,8 @@ use Rattle.std.specs.Prelude.{◌≡◌, ◌⊎◌, ℕ, ◌+◌, ◌-◌, ◌<�
 pub record Writes (old new : List ℕ) (offset : ℕ) (bytes : List ℕ) : Type 0 where
   pub size : length new ≡ max (length old) (offset + length bytes)
   pub written : (k : ℕ) → k < length bytes → slice_index new (offset + k) ≡ slice_index bytes k
-  pub kept : (k : ℕ) → k < length old → (k < offset) ⊎ (offset + length bytes ≤ k) → slice_index new k ≡ slice_index old k
+  pub kept : (k : ℕ) → k < length old → (k < offset) ⊎ (offset + length bytes ≤ k) →
+      slice_index new k ≡ slice_index old k
   pub gap : (k : ℕ) → length old ≤ k → k < offset → slice_index new k ≡ 0
 
 -- the file has that length; what it had below it stays, and what came with it is zero

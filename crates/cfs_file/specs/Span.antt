@@ -11,10 +11,11 @@ Holds Nothing position = ⊥
 Holds (Range from to) position = (from ≤ position) × (position < to)
 Holds (From from) position = from ≤ position
 
--- The request, on a file of that length, touches the position: a write those of its bytes, a truncate
--- all from its new length on, a read those of the bytes that it gives.
+-- The request, on a file of that length, touches the position: a write those of its bytes, a
+-- truncate all from its new length on, a read those of the bytes that it gives.
 abbrev pub Touches : Request → ℕ → ℕ → Type 0
-Touches (requests.Write offset bytes) size position = (offset ≤ position) × (position < offset + length bytes)
+Touches (requests.Write offset bytes) size position =
+    (offset ≤ position) × (position < offset + length bytes)
 Touches (requests.Append bytes) size position = (size ≤ position) × (position < size + length bytes)
 Touches (requests.Truncate n) size position = n ≤ position
 Touches (requests.Read offset count) size position =
@@ -65,7 +66,8 @@ reaches_over Nothing Nothing = true
 reaches_over Nothing (Range from to) = nat_le to from
 reaches_over Nothing (From from) = false
 reaches_over (Range start end) Nothing = true
-reaches_over (Range start end) (Range from to) = nat_le to from || (nat_le start from && nat_le to end)
+reaches_over (Range start end) (Range from to) =
+    nat_le to from || (nat_le start from && nat_le to end)
 reaches_over (Range start end) (From from) = false
 reaches_over (From start) Nothing = true
 reaches_over (From start) (Range from to) = nat_le to from || nat_le start from

@@ -76,8 +76,8 @@ impl Bytes {
         self.vec.is_empty()
     }
 
-    /// Writes `piece` at `offset`; a gap before it is filled with zero bytes (POSIX.1-2017, write()).
-    /// Costs the bytes written and filled. An `Err` leaves the bytes as they were.
+    /// Writes `piece` at `offset`; a gap before it is filled with zero bytes (POSIX.1-2017,
+    /// write()). Costs the bytes written and filled. An `Err` leaves the bytes as they were.
     pub fn put(&mut self, offset: u64, piece: &[u8]) -> Result<(), NoMemory>
         ensures ok { OnOk result (self.new ≡ put self.old offset piece.now) }
         ensures positions { OnOk result (Writes self.old self.new offset piece.now) }

@@ -1,4 +1,5 @@
-//! The sizes and numbers that several layers share, in bytes where no other unit is named (all own).
+//! The sizes and numbers that several layers share, in bytes where no other unit is
+//! named (all own).
 
 /// The bytes of a block, and the most that one slot holds of a request's payload.
 pub const BLOCK_LEN: u64 = 4096;

@@ -23,7 +23,8 @@ pub enum Span {
 pub fn span_of(request: &Request, length: u64) -> Span
     requires { EndFits request.now length }
     ensures exact { result ≡ span request.now length }
-    ensures positions { (position : ℕ) → Holds result position ↔ Touches request.now length position }
+    ensures positions { (position : ℕ) →
+        Holds result position ↔ Touches request.now length position }
 {
     match request {
         Request::Write { offset, bytes } => span_between(*offset, *offset + bytes.len() as u64),

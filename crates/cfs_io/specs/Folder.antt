@@ -38,7 +38,8 @@ Filled old new name bytes = Finds old name [] → Put old new name bytes
 abbrev pub Replaced : Option Files → Option Files → List ℕ → List ℕ → List ℕ → Type 0
 Replaced old new from to bytes = new ≡ option_map (λ m. insert (remove m from) to bytes) old
 
--- the file of the one name stands under the other, in place of one that was there, and nothing else changed
+-- the file of the one name stands under the other, in place of one that was there, and
+-- nothing else changed
 abbrev pub Moved : Option Files → Option Files → List ℕ → List ℕ → Type 0
 Moved old new from to = (bytes : List ℕ) → Finds old from bytes → Replaced old new from to bytes
 
@@ -81,7 +82,8 @@ HasSize files name size = IfSome files (λ m. IsSomeAnd (get m name) (λ bytes. 
 
 -- these are the first bytes of the file of this name, at most so many
 abbrev pub ReadsFront : Option Files → List ℕ → ℕ → List ℕ → Type 0
-ReadsFront files name most front = IfSome files (λ m. IsSomeAnd (get m name) (λ bytes. front ≡ take most bytes))
+ReadsFront files name most front =
+    IfSome files (λ m. IsSomeAnd (get m name) (λ bytes. front ≡ take most bytes))
 
 -- the file of this name has more bytes
 abbrev pub IsLonger : Option Files → List ℕ → ℕ → Type 0

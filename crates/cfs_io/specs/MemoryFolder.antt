@@ -29,7 +29,9 @@ failing_steps folder = folder.calls.failing.items
 abbrev pub AreSure : MemFolder → List ℕ → Type 0
 AreSure folder name = get (sure_files folder) name ≡ get (folder_files folder) name
 
--- a cut may leave what stands under a name for sure, or the file that stands there now: all of it where it is sure
+-- a cut may leave what stands under a name for sure, or the file that stands there now: all of it
+-- where it is sure
 abbrev pub CutLeaves : MemFolder → List ℕ → Option (List ℕ) → Type 0
 CutLeaves folder name left =
-    (left ≡ get (kept_files folder) name) ⊎ (AreSure folder name → left ≡ get (folder_files folder) name)
+    (left ≡ get (kept_files folder) name)
+    ⊎ (AreSure folder name → left ≡ get (folder_files folder) name)

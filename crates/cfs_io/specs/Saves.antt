@@ -26,7 +26,8 @@ Stands files name = IfSome files (λ m. IsSome (get m name))
 
 -- why a save of this name is refused, with the folder's count of faults before and after it
 abbrev pub CauseOf : SaveRefusal → Option Files → List ℕ → ℕ → ℕ → Type 0
-CauseOf NamesTaken old name before now = (number : ℕ) → number < 10 → Stands old (name_beside name number)
+CauseOf NamesTaken old name before now =
+    (number : ℕ) → number < 10 → Stands old (name_beside name number)
 CauseOf NoMemory old name before now = ⊤
 CauseOf Unchanged old name before now = Rose before now
 CauseOf LeftBeside old name before now = Rose before now

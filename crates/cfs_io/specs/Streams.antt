@@ -12,7 +12,8 @@ abbrev pub AppendsFront : Option (List ℕ) → Option (List ℕ) → List ℕ �
 AppendsFront old new piece = (n : ℕ) × (n ≤ length piece) × Appends old new (take n piece)
 
 -- a write that answers n added the first n bytes of the piece, and one that fails some front of it
-abbrev pub WritesPiece : {E : Type 0} → Option (List ℕ) → Option (List ℕ) → Result ℕ E → List ℕ → Type 0
+abbrev pub WritesPiece : {E : Type 0} → Option (List ℕ) → Option (List ℕ) → Result ℕ E → List ℕ
+    → Type 0
 WritesPiece old new result piece =
     MatchResult result (λ n. Appends old new (take n piece)) (λ _. AppendsFront old new piece)
 

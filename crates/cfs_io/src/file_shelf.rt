@@ -14,14 +14,15 @@ use std::alloc::Global;
 /// The most bytes that a file may have to be loaded (own).
 pub const LARGEST_FILE: u64 = 1_073_741_824;
 
-/// A shelf over a folder of files: its files are the folder's, but for those whose names have a `~`.
+/// A shelf over a folder of files: its files are the folder's, but for those whose names
+/// have a `~`.
 ///
 /// Such names are kept for saves. A save writes a new file beside the old one, makes it durable,
 /// renames it into place and makes the names durable. So a save that fails before the rename, or
 /// that the power cuts, leaves the old file, and one that fails behind it the new one. The new file
-/// of a failed save is removed; where that fails too, or after a cut, it stays, and is no file of the
-/// shelf. A save under a name with a `~` is a fault, and so is a load of a file of more than
-/// [`LARGEST_FILE`] bytes.
+/// of a failed save is removed; where that fails too, or after a cut, it stays, and is no file of
+/// the shelf. A save under a name with a `~` is a fault, and so is a load of a file of more
+/// than [`LARGEST_FILE`] bytes.
 #[derive(Debug, Drop)]
 pub struct FileShelf<F> {
     folder: F,
@@ -81,7 +82,8 @@ impl<F: Folder> Shelf for FileShelf<F> {
     ghost save_faults = { λ shelf. shelf.save_faults };
 
     fn load(&mut self, name: &Word) -> Result<Bytes, LoadRefusal>
-        ensures found { IfOk result (λ bytes. Finds (on_shelf (F.files self.old.folder)) name.now bytes) }
+        ensures found { IfOk result (λ bytes.
+            Finds (on_shelf (F.files self.old.folder)) name.now bytes) }
         ensures absent { IsErrOf result LoadRefusal.Absent →
             Misses (on_shelf (F.files self.old.folder)) name.now }
         ensures same { on_shelf (F.files self.new.folder) ≡ on_shelf (F.files self.old.folder) }
@@ -116,8 +118,8 @@ impl<F: Folder> Shelf for FileShelf<F> {
         ensures cause { HasCause self.old.save_faults self.new.save_faults result }
         ensures loads { self.new.load_faults ≡ self.old.load_faults }
 
-        // Beyond the trait: the old file or the new one stands, and a cut leaves one of the two, of a
-        // save that did not fail the new one.
+        // Beyond the trait: the old file or the new one stands, and a cut leaves one of the two, of
+        // a save that did not fail the new one.
         ensures whole { OnErr result (SameOrSaved (on_shelf (F.files self.old.folder))
             (on_shelf (F.files self.new.folder)) name.now bytes.now) }
         ensures durable { OnOk result ((left : Option (List ℕ)) →
@@ -153,8 +155,8 @@ fn save_file<F: Folder>(
     name: &Word,
     bytes: &[u8],
 ) -> Result<(), IoFault>
-    ensures saved { OnOk result (Saved (on_shelf (F.files folder.old)) (on_shelf (F.files folder.new))
-        name.now bytes.now) }
+    ensures saved { OnOk result (Saved (on_shelf (F.files folder.old))
+        (on_shelf (F.files folder.new)) name.now bytes.now) }
     ensures whole { OnErr result (SameOrSaved (on_shelf (F.files folder.old))
         (on_shelf (F.files folder.new)) name.now bytes.now) }
     ensures durable { OnOk result ((left : Option (List ℕ)) → F.MayLeave folder.new name.now left →

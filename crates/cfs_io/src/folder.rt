@@ -40,7 +40,8 @@ pub trait Folder {
         ensures size { IfOk result (λ size. HasSize (files self.old) name.now size) }
         ensures absent { IsErrOf result LoadRefusal.Absent → Misses (files self.old) name.now }
         ensures same { files self.new ≡ files self.old }
-        ensures failed { IsErrOf result LoadRefusal.Failed → Rose (faults self.old) (faults self.new) }
+        ensures failed { IsErrOf result LoadRefusal.Failed →
+            Rose (faults self.old) (faults self.new) }
         ensures later { faults self.old ≤ faults self.new };
 
     /// The first bytes of a file, at most `most` of them. Changes no file.
@@ -48,7 +49,8 @@ pub trait Folder {
         ensures front { IfOk result (λ front. ReadsFront (files self.old) name.now most front) }
         ensures absent { IsErrOf result LoadRefusal.Absent → Misses (files self.old) name.now }
         ensures same { files self.new ≡ files self.old }
-        ensures failed { IsErrOf result LoadRefusal.Failed → Rose (faults self.old) (faults self.new) }
+        ensures failed { IsErrOf result LoadRefusal.Failed →
+            Rose (faults self.old) (faults self.new) }
         ensures later { faults self.old ≤ faults self.new };
 
     /// Makes a new file without bytes under a name that no file has, and opens it.
@@ -58,7 +60,8 @@ pub trait Folder {
         ensures taken { IsErrOf result CreateRefusal.Taken → Stands (files self.old) name.now }
         ensures same { OnErr result (files self.new ≡ files self.old) }
         ensures left { OthersLeaveNoMore (MayLeave self.old) (MayLeave self.new) name.now }
-        ensures failed { IsErrOf result CreateRefusal.Failed → Rose (faults self.old) (faults self.new) }
+        ensures failed { IsErrOf result CreateRefusal.Failed →
+            Rose (faults self.old) (faults self.new) }
         ensures later { faults self.old ≤ faults self.new };
 
     /// Gives an open file the permissions of the file `name`, if there is one.
@@ -80,7 +83,8 @@ pub trait Folder {
 
     /// Makes the bytes of an open file sure.
     fn sync(&mut self, file: &Self::File) -> Result<(), IoFault>
-        ensures synced { (name : List ℕ) → Opens file.now name → OnOk result (IsSynced self.new name) }
+        ensures synced { (name : List ℕ) → Opens file.now name →
+            OnOk result (IsSynced self.new name) }
         ensures same { files self.new ≡ files self.old }
         ensures left { (name : List ℕ) → Opens file.now name →
             OthersLeaveNoMore (MayLeave self.old) (MayLeave self.new) name }

@@ -12,10 +12,11 @@ use crate::{CreateRefusal, Folder, IoFault, LoadRefusal};
 use cfs_file::{Bytes, NoMemory, Word};
 use std::alloc::Global;
 
-/// A folder that keeps its files in memory, with steps that are to fail; steps count from 1. It keeps
-/// what reads give, what is sure of each file, and what stands under each name for sure, so it can be
-/// cut at every step. A step copies its lists. A step that is to fail changes nothing, but that a
-/// `fill` writes the first half. Want of memory is a fault, but of a `size` and a `read`.
+/// A folder that keeps its files in memory, with steps that are to fail; steps count from 1. It
+/// keeps what reads give, what is sure of each file, and what stands under each name for sure, so
+/// it can be cut at every step. A step copies its lists. A step that is to fail changes nothing,
+/// but that a `fill` writes the first half. Want of memory is a fault, but of a `size`
+/// and a `read`.
 #[derive(Debug, Drop)]
 pub struct MemFolder {
     alloc: Global,
@@ -37,8 +38,8 @@ pub struct MemFile {
 impl MemFolder {
     ghost use Rattle.cfs_io.specs.MemoryFolder.{folder_files, folder_steps, failing_steps};
 
-    /// A folder with these files, all of them sure, whose steps with the numbers in `failing` are to
-    /// fail; of two files with one name the first counts.
+    /// A folder with these files, all of them sure, whose steps with the numbers in `failing` are
+    /// to fail; of two files with one name the first counts.
     pub fn new(
         alloc: Global,
         files: &[(Word, Bytes)],
@@ -72,8 +73,8 @@ impl MemFolder {
         self.faults
     }
 
-    /// A folder with what a cut leaves, none of whose steps fails: under each name what stands there
-    /// for sure, or, with `renamed`, what is sure of the file that stands there now.
+    /// A folder with what a cut leaves, none of whose steps fails: under each name what stands
+    /// there for sure, or, with `renamed`, what is sure of the file that stands there now.
     pub fn after_cut(&self, renamed: bool) -> Result<MemFolder, NoMemory>
         ensures { IfOk result (λ folder. (name : List ℕ) →
             ⟦<MemFolder as Folder>⟧.MayLeave self.now name (get (folder_files folder) name)) }
@@ -266,7 +267,8 @@ fn with(
     name: &Word,
     bytes: &[u8],
 ) -> Result<Vec<(Word, Bytes)>, NoMemory>
-    ensures { IfOk result (λ new. files_of new.items ≡ insert (files_of files.now) name.now bytes.now) }
+    ensures { IfOk result (λ new. files_of new.items
+        ≡ insert (files_of files.now) name.now bytes.now) }
 {
     let file = (
         Word::from_slice(alloc, name.as_slice())?,
@@ -318,7 +320,8 @@ fn moved(
     to: &Word,
 ) -> Result<Vec<(Word, Bytes)>, NoMemory>
     ensures { IfOk result (λ new. files_of new.items
-        ≡ with_or_without (remove (files_of files.now) from.now) to.now (get (files_of files.now) from.now)) }
+        ≡ with_or_without (remove (files_of files.now) from.now) to.now
+        (get (files_of files.now) from.now)) }
 {
     let rest = without(alloc, files, from)?;
     with_found(alloc, &rest, to, find(files, from))

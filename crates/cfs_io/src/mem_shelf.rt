@@ -30,7 +30,8 @@ impl MemShelf {
     ghost use Rattle.cfs_io.specs.Memory.{shelf_files, failing_calls, shelf_calls};
     ghost use Rattle.std.specs.FinMap.{empty};
 
-    /// A shelf with no files, whose calls with the numbers in `failing` are to fail. Takes no memory.
+    /// A shelf with no files, whose calls with the numbers in `failing` are to fail.
+    /// Takes no memory.
     pub fn new(alloc: Global, failing: Vec<u64>) -> MemShelf
         ensures files { shelf_files result ≡ empty }
         ensures failing { failing_calls result ≡ failing.items }
@@ -84,7 +85,8 @@ impl Shelf for MemShelf {
 
     fn load(&mut self, name: &Word) -> Result<Bytes, LoadRefusal>
         ensures found { IfOk result (λ bytes. Finds (Some (shelf_files self.old)) name.now bytes) }
-        ensures absent { IsErrOf result LoadRefusal.Absent → Misses (Some (shelf_files self.old)) name.now }
+        ensures absent { IsErrOf result LoadRefusal.Absent →
+            Misses (Some (shelf_files self.old)) name.now }
         ensures same { Some (shelf_files self.new) ≡ Some (shelf_files self.old) }
         ensures failed { IsErrOf result LoadRefusal.Failed →
             Rose self.old.load_faults self.new.load_faults }

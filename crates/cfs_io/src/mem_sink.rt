@@ -10,9 +10,9 @@ use crate::call_plan::CallPlan;
 use crate::{IoFault, Sink};
 use std::alloc::Global;
 
-/// A sink that keeps the bytes in memory, with writes that are to fail; writes count from 1. A write
-/// that is to fail adds nothing. Every other one takes as many bytes as the piece has, up to the
-/// sink's chunk. Want of memory is a fault of the sink: the write fails and adds nothing.
+/// A sink that keeps the bytes in memory, with writes that are to fail; writes count from 1. A
+/// write that is to fail adds nothing. Every other one takes as many bytes as the piece has, up to
+/// the sink's chunk. Want of memory is a fault of the sink: the write fails and adds nothing.
 #[derive(Debug, Drop)]
 pub struct MemSink {
     bytes: Vec<u8>,
@@ -25,7 +25,8 @@ pub struct MemSink {
 impl MemSink {
     ghost use Rattle.cfs_io.specs.Memory.{sink_written, failing_writes, sink_writes, sink_chunk};
 
-    /// A sink with no bytes, whose writes with the numbers in `failing` are to fail. Takes no memory.
+    /// A sink with no bytes, whose writes with the numbers in `failing` are to fail.
+    /// Takes no memory.
     pub fn new(alloc: Global, failing: Vec<u64>) -> MemSink
         ensures written { sink_written result ≡ [] }
         ensures chunk { sink_chunk result ≡ 2 ^ 64 - 1 }

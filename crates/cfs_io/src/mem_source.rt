@@ -9,9 +9,9 @@ ghost use Rattle.cfs_io.specs.Counts.{next_count};
 use crate::call_plan::CallPlan;
 use crate::{IoFault, Source};
 
-/// A source over bytes in memory, with reads that are to fail; reads count from 1. A read that is to
-/// fail gives nothing and takes nothing. Every other one gives as many bytes as there is room for,
-/// up to the source's chunk.
+/// A source over bytes in memory, with reads that are to fail; reads count from 1. A read that is
+/// to fail gives nothing and takes nothing. Every other one gives as many bytes as there is room
+/// for, up to the source's chunk.
 #[derive(Debug, Drop)]
 pub struct MemSource {
     bytes: Vec<u8>,
@@ -91,7 +91,8 @@ impl Source for MemSource {
         ensures fails { IsErr result ↔
             Contains (failing_reads self.old) (source_reads self.new) }
         ensures count { IfOk result (λ n.
-            n ≡ min (source_chunk self.old) (min (length (source_left self.old)) (length out.old))) }
+            n ≡ min (source_chunk self.old)
+            (min (length (source_left self.old)) (length out.old))) }
         ensures failing { failing_reads self.new ≡ failing_reads self.old }
         ensures chunk { source_chunk self.new ≡ source_chunk self.old }
     {

@@ -14,9 +14,9 @@ use std::alloc::Global;
 /// How many names a save tries for its new file.
 const NAMES_TRIED: u8 = 10;
 
-/// Puts a file of these bytes in place of the file `name`, if there is one: by a new file beside it,
-/// which is made durable and then renamed. So a failure before the rename, or a cut of the power,
-/// leaves the old file, and one behind it the new one whole.
+/// Puts a file of these bytes in place of the file `name`, if there is one: by a new file beside
+/// it, which is made durable and then renamed. So a failure before the rename, or a cut of the
+/// power, leaves the old file, and one behind it the new one whole.
 pub(crate) fn replace_file<F: Folder>(
     alloc: Global,
     folder: &mut F,
@@ -63,7 +63,8 @@ fn move_into_place<F: Folder>(
     requires opens { F.Opens file.old beside.now }
     requires empty { Finds (F.files folder.old) beside.now [] }
     requires apart { beside.now ≢ name.now }
-    ensures moved { OnOk result (Replaced (F.files folder.old) (F.files folder.new) beside.now name.now bytes.now) }
+    ensures moved { OnOk result (Replaced (F.files folder.old) (F.files folder.new)
+        beside.now name.now bytes.now) }
     ensures synced { OnOk result (F.IsSynced folder.new name.now) }
     ensures kept { OnErr result (OthersStay (F.files folder.old) (F.files folder.new) beside.now) }
     ensures either { (left : Option (List ℕ)) → F.MayLeave folder.new name.now left →

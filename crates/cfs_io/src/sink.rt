@@ -26,10 +26,12 @@ pub trait Sink {
         ensures cause { HasCause (faults self.old) (faults self.new) result };
 }
 
-/// Writes the whole of `piece`. A failure has written some front of it, or nothing. Takes no memory.
+/// Writes the whole of `piece`. A failure has written some front of it, or nothing.
+/// Takes no memory.
 pub fn write_all<K: Sink>(sink: &mut K, piece: &[u8]) -> Result<(), IoFault>
     ensures whole { OnOk result (Appends (K.written sink.old) (K.written sink.new) piece.now) }
-    ensures front { OnErr result (AppendsFront (K.written sink.old) (K.written sink.new) piece.now) }
+    ensures front { OnErr result
+        (AppendsFront (K.written sink.old) (K.written sink.new) piece.now) }
     ensures cause { HasCause (K.faults sink.old) (K.faults sink.new) result }
 {
     let mut at = 0;

@@ -6,8 +6,8 @@ use crate::{IoFault, Source};
 use std::io::Read;
 
 /// A source over a reader. It tells the bytes left where the reader tells them, as one in memory
-/// does; the standard input does not. Each call that the reader fails, also an interrupted one, is a
-/// fault.
+/// does; the standard input does not. Each call that the reader fails, also an interrupted one,
+/// is a fault.
 #[derive(Debug, Drop)]
 pub struct StdSource<R> {
     reader: R,

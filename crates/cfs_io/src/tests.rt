@@ -262,8 +262,8 @@ fn folder_of(alloc: Global, has_file: bool, failing: &[u64]) -> Result<MemFolder
     Ok(MemFolder::new(alloc, &files, Vec::from_slice(alloc, failing)?)?)
 }
 
-/// Whether a shelf over the folder has this text under `a`, where `old` is what was there before, if
-/// there was a file, and still has the file `b`.
+/// Whether a shelf over the folder has this text under `a`, where `old` is what was there before,
+/// if there was a file, and still has the file `b`.
 fn holds(alloc: Global, folder: MemFolder, text: &str, had_file: bool) -> bool {
     let mut shelf = FileShelf::new(folder, alloc);
     let want = if text == "old" && !had_file {

@@ -13,7 +13,8 @@ is_image_byte b = is_ascii_alphanumeric b || b == 46 || b == 95 || b == 45 || b 
 -- an image's name has 1 to 200 such bytes, and does not look like an option
 abbrev pub is_image_name : List ℕ → Bool
 is_image_name name =
-    nat_le 1 (length name) && nat_le (length name) 200 && list_all is_image_byte name && not (get_or name 0 0 == 45)
+    nat_le 1 (length name) && nat_le (length name) 200 && list_all is_image_byte name
+    && not (get_or name 0 0 == 45)
 
 abbrev pub is_play : List ℕ → Bool
 is_play word = bytes_eq word (codes "play")
@@ -27,7 +28,8 @@ pub record IsPlay (words : List (List ℕ)) (image : List ℕ) : Type 0 where
 abbrev pub is_mkfs : List ℕ → Bool
 is_mkfs word = bytes_eq word (codes "mkfs")
 
--- the words are the program's name, `mkfs`, an image's name, and in decimal how many blocks and queues
+-- the words are the program's name, `mkfs`, an image's name, and in decimal how many
+-- blocks and queues
 pub record IsMkfs (words : List (List ℕ)) (image : List ℕ) (blocks queues : ℕ) : Type 0 where
   pub program : List ℕ
   pub are : words ≡ program ∷ codes "mkfs" ∷ image ∷ decimal blocks ∷ decimal queues ∷ []

@@ -26,8 +26,8 @@ pub record Outside : Type 0 where
   pub written : Option (List ℕ)
   pub files : Option Files
 
--- The source was read to its end, its bytes are a script and no more than one may have, and the text is all that its lines answer,
--- one after another from an empty file on.
+-- The source was read to its end, its bytes are a script and no more than one may have, and the
+-- text is all that its lines answer, one after another from an empty file on.
 pub record PlaysScript (left rest : Option (List ℕ)) (text : List ℕ) : Type 0 where
   pub bytes : List ℕ
   pub came : Consumes left rest bytes
@@ -80,7 +80,8 @@ ArePlay words = (image : List ℕ) × IsPlay words image
 
 -- the words are `mkfs` of some image
 abbrev pub AreMkfs : List (List ℕ) → Type 0
-AreMkfs words = (image : List ℕ) × ((blocks : ℕ) × ((queues : ℕ) × IsMkfs words image blocks queues))
+AreMkfs words =
+    (image : List ℕ) × ((blocks : ℕ) × ((queues : ℕ) × IsMkfs words image blocks queues))
 
 -- the words are no command
 abbrev pub AreNone : List (List ℕ) → Type 0
@@ -94,14 +95,16 @@ IsDue words left rest status text =
     ⊎ (AreNone words × (status ≡ Usage) × (text ≡ usage_text)))
 
 -- some front of a text that is due was written
-pub record WritesFront (due : Status → List ℕ → Type 0) (before after : Option (List ℕ)) : Type 0 where
+pub record WritesFront (due : Status → List ℕ → Type 0)
+    (before after : Option (List ℕ)) : Type 0 where
   pub status : Status
   pub text : List ℕ
   pub is_due : due status text
   pub written : AppendsFront before after text
 
 -- the text that is due with this status was written
-pub record WritesAll (due : Status → List ℕ → Type 0) (status : Status) (before after : Option (List ℕ)) : Type 0 where
+pub record WritesAll (due : Status → List ℕ → Type 0) (status : Status)
+    (before after : Option (List ℕ)) : Type 0 where
   pub text : List ℕ
   pub is_due : due status text
   pub written : Appends before after text
@@ -142,8 +145,8 @@ Keeps Output words old new = new ≡ old
 Keeps Shelf words old new = FailsToSave words old new
 Keeps NoMemory words old new = new ≡ old
 
--- A call with these words ended so: what it wrote is what is due, and the shelf is as the status says. Only
--- `play` reads the source.
+-- A call with these words ended so: what it wrote is what is due, and the shelf is as the status
+-- says. Only `play` reads the source.
 pub record Ends (status : Status) (words : List (List ℕ)) (before after : Outside) : Type 0 where
   pub writes : Writes (IsDue words before.left after.left) status before.written after.written
   pub asked : status ≡ Input → ArePlay words
@@ -174,4 +177,5 @@ IsHeeded NoMemory = ⊥
 -- the text was written, which ends with this status, or a front of it, which ends with a fault
 abbrev pub Says : Status → Status → List ℕ → Option (List ℕ) → Option (List ℕ) → Type 0
 Says result status text before after =
-    ((result ≡ status) × Appends before after text) ⊎ ((result ≡ Output) × AppendsFront before after text)
+    ((result ≡ status) × Appends before after text)
+    ⊎ ((result ≡ Output) × AppendsFront before after text)

@@ -18,18 +18,32 @@ use Rattle.cfs_io.specs.Streams.{AppendsFront}
 use Rattle.cfs_top.specs.Answers.{printed}
 use Rattle.cfs_top.specs.Text.{texts}
 
--- A request takes the next place of the file's log, and answers what it answers on the file after the
--- entries before it. The file is empty at first.
-pub record Admits (old : List Entry) (line caller : ℕ) (request : Request) (reply : Option OutLine) (new : List Entry) : Type 0 where
-  pub entry : new ≡ old ++ record { ino = FILE; place = length old + 1; caller = caller; line = line; request = request } ∷ []
-  pub reply_is : reply ≡ Some (record { number = line; answer = printed FILE (length old + 1) (answer (file_of [] old) request) })
+-- A request takes the next place of the file's log, and answers what it answers on the file after
+-- the entries before it. The file is empty at first.
+pub record Admits (old : List Entry) (line caller : ℕ) (request : Request)
+    (reply : Option OutLine) (new : List Entry) : Type 0 where
+  pub entry : new ≡ old
+      ++ record {
+        ino = FILE;
+        place = length old + 1;
+        caller = caller;
+        line = line;
+        request = request;
+      } ∷ []
+  pub reply_is : reply ≡ Some (record {
+    number = line;
+    answer = printed FILE (length old + 1) (answer (file_of [] old) request);
+  })
 
--- what a line answers, if it answers, and the log before and after it; a script that is served has no other
--- lines than these four
+-- what a line answers, if it answers, and the log before and after it; a script that is served has
+-- no other lines than these four
 abbrev pub Does : List Entry → ℕ → Form → Option OutLine → List Entry → Type 0
-Does old line (forms.Open caller path flags mode) reply new = (reply ≡ Some (record { number = line; answer = Opened 1 0 FILE })) × (new ≡ old)
-Does old line (forms.Pwrite caller fd offset bytes) reply new = Admits old line caller (requests.Write offset bytes) reply new
-Does old line (forms.Pread caller fd offset count) reply new = Admits old line caller (requests.Read offset count) reply new
+Does old line (forms.Open caller path flags mode) reply new =
+    (reply ≡ Some (record { number = line; answer = Opened 1 0 FILE })) × (new ≡ old)
+Does old line (forms.Pwrite caller fd offset bytes) reply new =
+    Admits old line caller (requests.Write offset bytes) reply new
+Does old line (forms.Pread caller fd offset count) reply new =
+    Admits old line caller (requests.Read offset count) reply new
 Does old line _ reply new = (reply ≡ None) × (new ≡ old)
 
 abbrev pub Step : List Entry → Line → Option OutLine → List Entry → Type 0
@@ -39,16 +53,20 @@ Step old line reply new = Does old line.number line.form reply new
 abbrev pub Run : List Entry → List Line → List OutLine → List Entry → Type 0
 Run old [] outs new = (outs ≡ []) × (new ≡ old)
 Run old (line ∷ lines) outs new =
-    (reply : Option OutLine) × ((mid : List Entry) × ((others : List OutLine) × (Step old line reply mid × (Run mid lines others new × (outs ≡ option_to_list reply ++ others)))))
+    (reply : Option OutLine) × ((mid : List Entry) × ((others : List OutLine)
+    × (Step old line reply mid
+    × (Run mid lines others new × (outs ≡ option_to_list reply ++ others)))))
 
 -- The lines were played, and all that they answer was written.
-pub record PlaysAll (old : List Entry) (lines : List Line) (new : List Entry) (before after : Option (List ℕ)) : Type 0 where
+pub record PlaysAll (old : List Entry) (lines : List Line) (new : List Entry)
+    (before after : Option (List ℕ)) : Type 0 where
   pub outs : List OutLine
   pub run : Run old lines outs new
   pub written : Appends before after (texts outs)
 
 -- Some front of what the lines answer was written.
-pub record PlaysFront (old : List Entry) (lines : List Line) (before after : Option (List ℕ)) : Type 0 where
+pub record PlaysFront (old : List Entry) (lines : List Line)
+    (before after : Option (List ℕ)) : Type 0 where
   pub outs : List OutLine
   pub new : List Entry
   pub run : Run old lines outs new

@@ -15,7 +15,8 @@ most_bytes = 4096
 
 -- the flags `rwc`
 abbrev pub is_rwc : Flags → Bool
-is_rwc flags = flags.read && (flags.write && (flags.create && (not flags.exclusive && not flags.append)))
+is_rwc flags =
+    flags.read && (flags.write && (flags.create && (not flags.exclusive && not flags.append)))
 
 -- the path `/a`
 abbrev pub is_a : List (List ℕ) → Bool
@@ -23,16 +24,21 @@ is_a path = same_names path ((97 ∷ []) ∷ [])
 
 -- a transfer of caller 1 over descriptor 0, behind the caller and the open
 abbrev pub is_transfer : ℕ → ℕ → ℕ → ℕ → Bool
-is_transfer before caller fd offset = nat_le 2 before && (caller == 1 && (fd == 0 && nat_le offset last_offset))
+is_transfer before caller fd offset =
+    nat_le 2 before && (caller == 1 && (fd == 0 && nat_le offset last_offset))
 
--- what is served behind so many lines: caller 1 with user and group 10, then `/a` opened with flags `rwc` and
--- mode 0644, then reads and writes at offsets of the one descriptor
+-- what is served behind so many lines: caller 1 with user and group 10, then `/a` opened with flags
+-- `rwc` and mode 0644, then reads and writes at offsets of the one descriptor
 abbrev pub is_served : ℕ → Form → Bool
-is_served before (forms.Caller caller uid gid) = before == 0 && (caller == 1 && (uid == 10 && gid == 10))
-is_served before (forms.Open caller path flags mode) = before == 1 && (caller == 1 && (is_a path && (is_rwc flags && mode == 420)))
+is_served before (forms.Caller caller uid gid) =
+    before == 0 && (caller == 1 && (uid == 10 && gid == 10))
+is_served before (forms.Open caller path flags mode) =
+    before == 1 && (caller == 1 && (is_a path && (is_rwc flags && mode == 420)))
 is_served before (forms.Pwrite caller fd offset bytes) =
-    is_transfer before caller fd offset && (nat_le 1 (length bytes) && nat_le (length bytes) most_bytes)
-is_served before (forms.Pread caller fd offset count) = is_transfer before caller fd offset && nat_le count most_bytes
+    is_transfer before caller fd offset
+    && (nat_le 1 (length bytes) && nat_le (length bytes) most_bytes)
+is_served before (forms.Pread caller fd offset count) =
+    is_transfer before caller fd offset && nat_le count most_bytes
 is_served before _ = false
 
 -- all lines are served, behind so many

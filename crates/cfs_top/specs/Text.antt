@@ -14,13 +14,19 @@ refused_text = codes "script refused\n"
 
 -- the line's number, and the file and the place of its request
 abbrev pub head_text : ℕ → ℕ → ℕ → List ℕ
-head_text number ino place = decimal number ++ codes " ok ino=" ++ decimal ino ++ codes " place=" ++ decimal place
+head_text number ino place =
+    decimal number ++ codes " ok ino=" ++ decimal ino ++ codes " place=" ++ decimal place
 
 -- what a line of that number answers; the bytes of a read are hexadecimal
 abbrev pub answer_text : ℕ → Printed → List ℕ
-answer_text number (Opened place fd ino) = decimal number ++ codes " ok ns=" ++ decimal place ++ codes " fd=" ++ decimal fd ++ codes " ino=" ++ decimal ino
-answer_text number (Wrote ino place offset count) = head_text number ino place ++ codes " off=" ++ decimal offset ++ codes " n=" ++ decimal count
-answer_text number (Got ino place bytes) = head_text number ino place ++ codes " n=" ++ decimal (length bytes) ++ codes " h:" ++ encode_lower bytes
+answer_text number (Opened place fd ino) =
+    decimal number ++ codes " ok ns=" ++ decimal place
+    ++ codes " fd=" ++ decimal fd ++ codes " ino=" ++ decimal ino
+answer_text number (Wrote ino place offset count) =
+    head_text number ino place ++ codes " off=" ++ decimal offset ++ codes " n=" ++ decimal count
+answer_text number (Got ino place bytes) =
+    head_text number ino place ++ codes " n=" ++ decimal (length bytes)
+    ++ codes " h:" ++ encode_lower bytes
 answer_text number (Done ino place) = head_text number ino place
 
 -- each line of output is ended by the byte 10

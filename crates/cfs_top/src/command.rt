@@ -23,8 +23,10 @@ pub(crate) struct NewStore<'a> {
 /// The store of `mkfs IMAGE BLOCKS QUEUES`, if the words are that command. The first word is the
 /// program's name.
 pub(crate) fn store_to_make(words: &[Word]) -> Option<NewStore<'_>>
-    ensures found { IfSome result (λ store. IsMkfs words.now store.image.now store.blocks store.queues) }
-    ensures none { IfNone result ((image : List ℕ) (blocks queues : ℕ) → IsMkfs words.now image blocks queues → ⊥) }
+    ensures found { IfSome result (λ store.
+        IsMkfs words.now store.image.now store.blocks store.queues) }
+    ensures none { IfNone result ((image : List ℕ) (blocks queues : ℕ) →
+        IsMkfs words.now image blocks queues → ⊥) }
 {
     let [_, command, image, blocks, queues] = words else {
         return None;

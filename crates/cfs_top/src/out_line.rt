@@ -59,7 +59,8 @@ fn print_opened(
     fd: u64,
     ino: u64,
 ) -> Result<String, NoMemory>
-    ensures { IfOk result (λ text. string_bytes text ≡ answer_text number (Printed.Opened place fd ino)) }
+    ensures { IfOk result (λ text.
+        string_bytes text ≡ answer_text number (Printed.Opened place fd ino)) }
 {
     let text = format!(in alloc; "{number} ok ns={place} fd={fd} ino={ino}")?;
     Ok(text)

@@ -37,22 +37,26 @@ impl From<IoFault> for PlayEnd {
     }
 }
 
-/// Plays the script's lines in order, and writes what they answer. Costs the bytes of the script and
-/// of the output. A failure has written some front of the whole text.
+/// Plays the script's lines in order, and writes what they answer. Costs the bytes of the script
+/// and of the output. A failure has written some front of the whole text.
 pub(crate) fn play_script<K: Sink>(
     alloc: Global,
     world: &mut World,
     script: &Script,
     output: &mut K,
 ) -> Result<(), PlayEnd>
-    ensures whole { OnOk result (PlaysAll world.old script.now world.new (K.written output.old) (K.written output.new)) }
-    ensures front { OnErr result (PlaysFront world.old script.now (K.written output.old) (K.written output.new)) }
+    ensures whole { OnOk result (PlaysAll world.old script.now world.new
+        (K.written output.old) (K.written output.new)) }
+    ensures front { OnErr result (PlaysFront world.old script.now
+        (K.written output.old) (K.written output.new)) }
 
     // It gives up only for a fault of the sink, and passes none over.
-    ensures output { IsErrOf result PlayEnd.Output → Rose (K.faults output.old) (K.faults output.new) }
+    ensures output { IsErrOf result PlayEnd.Output →
+        Rose (K.faults output.old) (K.faults output.new) }
     ensures later { K.faults output.old ≤ K.faults output.new }
     ensures kept { OnOk result (K.faults output.new ≡ K.faults output.old) }
-    ensures kept_want { IsErrOf result PlayEnd.NoMemory → K.faults output.new ≡ K.faults output.old }
+    ensures kept_want { IsErrOf result PlayEnd.NoMemory →
+        K.faults output.new ≡ K.faults output.old }
 {
     'lines: for line in script.lines() {
         play_line(alloc, world, line, output)?;
@@ -67,12 +71,16 @@ fn play_line<K: Sink>(
     line: &Line,
     output: &mut K,
 ) -> Result<(), PlayEnd>
-    ensures whole { OnOk result (PlaysAll world.old (line.now ∷ []) world.new (K.written output.old) (K.written output.new)) }
-    ensures front { OnErr result (PlaysFront world.old (line.now ∷ []) (K.written output.old) (K.written output.new)) }
-    ensures output { IsErrOf result PlayEnd.Output → Rose (K.faults output.old) (K.faults output.new) }
+    ensures whole { OnOk result (PlaysAll world.old (line.now ∷ []) world.new
+        (K.written output.old) (K.written output.new)) }
+    ensures front { OnErr result (PlaysFront world.old (line.now ∷ [])
+        (K.written output.old) (K.written output.new)) }
+    ensures output { IsErrOf result PlayEnd.Output →
+        Rose (K.faults output.old) (K.faults output.new) }
     ensures later { K.faults output.old ≤ K.faults output.new }
     ensures kept { OnOk result (K.faults output.new ≡ K.faults output.old) }
-    ensures kept_want { IsErrOf result PlayEnd.NoMemory → K.faults output.new ≡ K.faults output.old }
+    ensures kept_want { IsErrOf result PlayEnd.NoMemory →
+        K.faults output.new ≡ K.faults output.old }
 {
     if let Some(out) = world.play_line(line)? {
         let text = print_line(alloc, &out)?;

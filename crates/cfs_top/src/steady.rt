@@ -34,15 +34,24 @@ pub fn crossfs_steady<S: Source, K: Sink, H: Shelf>(
     shelf: &mut H,
 ) -> Status
     ensures ends { Ends result words.now
-        (record { left = S.left input.old; written = K.written output.old; files = H.files shelf.old })
-        (record { left = S.left input.new; written = K.written output.new; files = H.files shelf.new }) }
+        (record {
+          left = S.left input.old;
+          written = K.written output.old;
+          files = H.files shelf.old;
+        })
+        (record {
+          left = S.left input.new;
+          written = K.written output.new;
+          files = H.files shelf.new;
+        }) }
 
     // A fault is answered only where there was one, and none is passed over.
     ensures input { result ≡ Status.Input → Rose (S.faults input.old) (S.faults input.new) }
     ensures output { result ≡ Status.Output → Rose (K.faults output.old) (K.faults output.new) }
     ensures source { result ≢ Status.Input → S.faults input.new ≡ S.faults input.old }
     ensures sink { result ≢ Status.Output → K.faults output.new ≡ K.faults output.old }
-    ensures shelf { result ≡ Status.Shelf → Rose (H.save_faults shelf.old) (H.save_faults shelf.new) }
+    ensures shelf { result ≡ Status.Shelf →
+        Rose (H.save_faults shelf.old) (H.save_faults shelf.new) }
     ensures loads { H.load_faults shelf.new ≡ H.load_faults shelf.old }
     ensures saves { result ≢ Status.Shelf → H.save_faults shelf.new ≡ H.save_faults shelf.old }
 {
@@ -62,7 +71,8 @@ fn mkfs<H: Shelf>(alloc: Global, image: &Word, blocks: u32, queues: u32, shelf: 
     requires fewest_queues { FEWEST_QUEUES ≤ queues }
     requires most_queues { queues ≤ MOST_QUEUES }
     ensures made { Makes result image.now blocks queues (H.files shelf.old) (H.files shelf.new) }
-    ensures shelf { result ≡ Status.Shelf → Rose (H.save_faults shelf.old) (H.save_faults shelf.new) }
+    ensures shelf { result ≡ Status.Shelf →
+        Rose (H.save_faults shelf.old) (H.save_faults shelf.new) }
     ensures loads { H.load_faults shelf.new ≡ H.load_faults shelf.old }
     ensures saves { result ≢ Status.Shelf → H.save_faults shelf.new ≡ H.save_faults shelf.old }
 {
@@ -78,7 +88,8 @@ fn mkfs<H: Shelf>(alloc: Global, image: &Word, blocks: u32, queues: u32, shelf: 
 
 /// Reads a script from `input` and plays it.
 fn play<S: Source, K: Sink>(alloc: Global, input: &mut S, output: &mut K) -> Status
-    ensures writes { Writes (PlayIsDue (S.left input.old) (S.left input.new)) result (K.written output.old) (K.written output.new) }
+    ensures writes { Writes (PlayIsDue (S.left input.old) (S.left input.new)) result
+        (K.written output.old) (K.written output.new) }
     ensures came { SomeCame (S.left input.old) (S.left input.new) }
     ensures shelf { result ≢ Status.Shelf }
     ensures input { result ≡ Status.Input → Rose (S.faults input.old) (S.faults input.new) }

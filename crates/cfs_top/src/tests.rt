@@ -28,7 +28,8 @@ struct Ended {
     output: Vec<u8>,
 }
 
-// A call over a source whose read of that number fails, and a sink whose write of that number fails.
+// A call over a source whose read of that number fails, and a sink whose write of
+// that number fails.
 fn run(
     alloc: Global,
     texts: &[&str],
@@ -62,12 +63,16 @@ fn scripts_answer_their_lines(rt: HostRuntime) -> Result<(), Fail> {
         (
             "caller 1 10 10\n1 open /a rwc 0644\n1 pwrite 0 10 t:xyz\n1 pread 0 0 12\n",
             Status::Done,
-            "2 ok ns=1 fd=0 ino=2\n3 ok ino=2 place=1 off=10 n=3\n4 ok ino=2 place=2 n=12 h:000000000000000000007879\n",
+            "2 ok ns=1 fd=0 ino=2\n3 ok ino=2 place=1 off=10 n=3\n\
+            4 ok ino=2 place=2 n=12 h:000000000000000000007879\n",
         ),
         (
-            "caller 1 10 10\n1 open /a rwc 0644\n1 pread 0 0 3\n1 pwrite 0 0 t:abc\n1 pread 0 1 1\n1 pwrite 0 1 t:Z\n1 pread 0 0 4096\n",
+            "caller 1 10 10\n1 open /a rwc 0644\n1 pread 0 0 3\n1 pwrite 0 0 t:abc\n\
+            1 pread 0 1 1\n1 pwrite 0 1 t:Z\n1 pread 0 0 4096\n",
             Status::Done,
-            "2 ok ns=1 fd=0 ino=2\n3 ok ino=2 place=1 n=0 h:\n4 ok ino=2 place=2 off=0 n=3\n5 ok ino=2 place=3 n=1 h:62\n6 ok ino=2 place=4 off=1 n=1\n7 ok ino=2 place=5 n=3 h:615a63\n",
+            "2 ok ns=1 fd=0 ino=2\n3 ok ino=2 place=1 n=0 h:\n4 ok ino=2 place=2 off=0 n=3\n\
+            5 ok ino=2 place=3 n=1 h:62\n6 ok ino=2 place=4 off=1 n=1\n\
+            7 ok ino=2 place=5 n=3 h:615a63\n",
         ),
         (
             "caller 1 10 10\n1 opne /a r\n",
@@ -114,8 +119,8 @@ fn a_script_that_is_too_long_is_refused(rt: HostRuntime) -> Result<(), Fail> {
 
 #[test]
 fn other_words_are_usage(rt: HostRuntime) -> Result<(), Fail> {
-    let half =
-        "123456789/123456789/123456789/123456789/123456789/123456789/123456789/123456789/123456789/123456789/";
+    let half = "123456789/123456789/123456789/123456789/123456789/\
+        123456789/123456789/123456789/123456789/123456789/";
     let longest = format!(in rt.alloc(); "{half}{half}")?;
     let longer = format!(in rt.alloc(); "{half}{half}.")?;
     for (command, image, status) in [

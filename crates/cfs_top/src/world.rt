@@ -92,7 +92,8 @@ impl World {
 
     /// Gives the request the next place and answers it. An `Err` leaves the world as it was.
     fn admit(&mut self, line: u64, caller: u64, request: Request) -> Result<OutLine, NoMemory>
-        ensures admitted { IfOk result (λ out. Admits self.old line caller request (Some out) self.new) }
+        ensures admitted { IfOk result (λ out.
+            Admits self.old line caller request (Some out) self.new) }
         ensures err { OnErr result (self.new ≡ self.old) }
     {
         let answer = answer_on(self.alloc, &self.file, &request)?;

@@ -20,7 +20,14 @@ end_of (From from) = 18446744073709551615
 -- what stands at a number that the store has not
 abbrev pub no_node : StoredNode
 no_node = record {
-  node = record { place = 0; span = Nothing; left = None; right = None; left_end = 0; right_end = 0 };
+  node = record {
+    place = 0;
+    span = Nothing;
+    left = None;
+    right = None;
+    left_end = 0;
+    right_end = 0;
+  };
   height = 0;
 }
 
@@ -66,6 +73,13 @@ rank_of node = start_of node.span * 2 ^ 64 + node.place
 -- the node of a place, linked to nothing
 abbrev pub alone_at : ℕ → Span → StoredNode
 alone_at place span = record {
-  node = record { place = place; span = span; left = None; right = None; left_end = 0; right_end = 0 };
+  node = record {
+    place = place;
+    span = span;
+    left = None;
+    right = None;
+    left_end = 0;
+    right_end = 0;
+  };
   height = 1;
 }

@@ -21,7 +21,8 @@ numbers_of (Fork at l r) = numbers_of l ++ at ∷ numbers_of r
 abbrev pub DifferByAtMost : ℕ → ℕ → ℕ → Type 0
 DifferByAtMost by l r = (l ≤ r + by) × (r ≤ l + by)
 
--- Each node of the tree is linked to the roots of its sides, and these differ by at most one in height.
+-- Each node of the tree is linked to the roots of its sides, and these differ by at most
+-- one in height.
 abbrev pub Stands : List StoredNode → NodeTree → Type 0
 Stands nodes Empty = Unit {0}
 Stands nodes (Fork at l r) =

@@ -7,8 +7,8 @@ use Rattle.cfs_file.specs.declared.span.Span.TheVariants.{Nothing, Range, From}
 use Rattle.cfs_file.specs.Span.{Overlap, Covers, meets}
 use Rattle.cfs_tree.specs.Nodes.{start_of}
 
--- What a tree keeps: the spans with their places, ordered by where they start and then by place; and
--- how many more it has room for.
+-- What a tree keeps: the spans with their places, ordered by where they start and then by place;
+-- and how many more it has room for.
 pub record SpanList : Type 0 where
   pub spans : List (ℕ × Span)
   pub spare : ℕ
@@ -25,12 +25,14 @@ order_of kept = start_of kept.1 * 2 ^ 64 + kept.0
 abbrev pub insert_in_order : ℕ × Span → List (ℕ × Span) → List (ℕ × Span)
 insert_in_order new [] = new ∷ []
 insert_in_order new (kept ∷ rest) =
-    cond (nat_lt (order_of new) (order_of kept)) (new ∷ kept ∷ rest) (kept ∷ insert_in_order new rest)
+    cond (nat_lt (order_of new) (order_of kept)) (new ∷ kept ∷ rest)
+    (kept ∷ insert_in_order new rest)
 
 -- the list without a place
 abbrev pub without_place : ℕ → List (ℕ × Span) → List (ℕ × Span)
 without_place place [] = []
-without_place place (kept ∷ rest) = cond (nat_eq place kept.0) (without_place place rest) (kept ∷ without_place place rest)
+without_place place (kept ∷ rest) =
+    cond (nat_eq place kept.0) (without_place place rest) (kept ∷ without_place place rest)
 
 -- the numbers of the span, where it has them, are below the greatest of 64 bits
 abbrev pub IsBounded : Span → Type 0
@@ -52,7 +54,8 @@ IsLeast P (Some least) = P least × ((n : ℕ) → P n → least ≤ n)
 -- a place between the two, whose span meets the asked one
 abbrev pub OverlapsBetween : List (ℕ × Span) → Span → ℕ → ℕ → ℕ → Type 0
 OverlapsBetween spans asked after before place =
-    (after < place) × (place < before) × IsSomeAnd (span_at spans place) (λ kept. Overlap asked kept)
+    (after < place) × (place < before)
+    × IsSomeAnd (span_at spans place) (λ kept. Overlap asked kept)
 
 -- a place between the two, whose span the asked one covers
 abbrev pub CoveredBetween : List (ℕ × Span) → Span → ℕ → ℕ → ℕ → Type 0
@@ -63,8 +66,8 @@ CoveredBetween spans asked after before place =
 abbrev pub overlap_count : Span → List (ℕ × Span) → ℕ
 overlap_count asked spans = count_by (λ kept. meets asked kept.1) spans
 
--- At most (k + 1) (h + 1) steps, where k spans overlap the asked one and the tree is h high; and of n
--- spans it is at most so high that 2 ^ h is at most (n + 1) ^ 2.
+-- At most (k + 1) (h + 1) steps, where k spans overlap the asked one and the tree is h high; and of
+-- n spans it is at most so high that 2 ^ h is at most (n + 1) ^ 2.
 abbrev pub IsWithinBound : List (ℕ × Span) → Span → ℕ → Type 0
 IsWithinBound spans asked steps =
     (h : ℕ) × (2 ^ h ≤ (length spans + 1) ^ 2) × (steps ≤ (overlap_count asked spans + 1) * (h + 1))

@@ -36,7 +36,8 @@ impl Search {
     /// A search, and none where the asked span has no position: it overlaps and covers nothing.
     pub(crate) fn of(relation: Relation, asked: Span, after: u64, before: u64) -> Option<Search>
         requires { IsBounded asked }
-        ensures { MatchOption result (HasPositions asked → ⊥) (IsSearchOf relation asked after before) }
+        ensures { MatchOption result (HasPositions asked → ⊥)
+            (IsSearchOf relation asked after before) }
     {
         let (from, end) = match asked {
             Span::Range { from, to } if from < to => (from, to),
@@ -75,9 +76,9 @@ impl Search {
         }
     }
 
-    /// The smallest place under a link that is looked for, where all spans there end by the reach. A
-    /// side whose spans end too early takes no step, and the right one none where its spans start
-    /// too late.
+    /// The smallest place under a link that is looked for, where all spans there end by the reach.
+    /// A side whose spans end too early takes no step, and the right one none where its spans
+    /// start too late.
     pub(crate) fn least_under<L: Ledger>(
         self,
         store: &SpanStore,

@@ -5,8 +5,8 @@ ghost use Rattle.cfs_tree.specs.Nodes.{start_of as the_start, rank_of};
 
 use cfs_file::Span;
 
-/// The span of a place, with the numbers of the nodes below it. A span without end counts with the end
-/// 18,446,744,073,709,551,615, and a missing child with the end 0.
+/// The span of a place, with the numbers of the nodes below it. A span without end counts with the
+/// end 18,446,744,073,709,551,615, and a missing child with the end 0.
 #[derive(Clone, Copy, Debug, PartialEq, Eq)]
 pub struct SpanNode {
     /// The place.

@@ -43,8 +43,8 @@ impl SpanTree {
         }
     }
 
-    /// Makes room for one span more at least. Refused for want of memory alone, and where 4,294,967,294
-    /// nodes stand.
+    /// Makes room for one span more at least. Refused for want of memory alone, and where
+    /// 4,294,967,294 nodes stand.
     pub fn reserve(&mut self) -> Result<(), NoMemory>
         ensures spans { self.new.spans ≡ self.old.spans }
         ensures room { self.old.spare ≤ self.new.spare }
@@ -90,8 +90,8 @@ impl SpanTree {
         self.store.find(place, steps)
     }
 
-    /// The smallest kept place above `after` and below `before` whose span overlaps the asked one, and
-    /// none exactly where there is none.
+    /// The smallest kept place above `after` and below `before` whose span overlaps the asked one,
+    /// and none exactly where there is none.
     pub fn first_overlap_between<L: Ledger>(
         &self,
         span: &Span,
@@ -110,8 +110,8 @@ impl SpanTree {
         }
     }
 
-    /// The smallest kept place above `after` and below `before` whose span the asked one covers, and
-    /// none exactly where there is none.
+    /// The smallest kept place above `after` and below `before` whose span the asked one covers,
+    /// and none exactly where there is none.
     pub fn next_covered<L: Ledger>(
         &self,
         span: &Span,

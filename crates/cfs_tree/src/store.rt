@@ -23,8 +23,8 @@ use stored_node::StoredNode;
 /// A store has no more nodes: their numbers are below it.
 const MOST_NODES: usize = u32::MAX as usize - 1;
 
-/// The nodes of a tree, by number, and the number of each place's node. Behind `&self` it is read by
-/// `node` and `find` alone, and each read is one step.
+/// The nodes of a tree, by number, and the number of each place's node. Behind `&self` it is read
+/// by `node` and `find` alone, and each read is one step.
 #[derive(Drop)]
 pub struct SpanStore {
     nodes: Vec<StoredNode>,
@@ -70,7 +70,8 @@ impl SpanStore {
     /// Makes room for one more span at least.
     pub(crate) fn reserve(&mut self) -> Result<(), NoMemory>
         requires { (root : Option ℕ) × (t : NodeTree) × Holds self.old root t }
-        ensures holds { (root : Option ℕ) (t : NodeTree) → Holds self.old root t → Keeps self.old self.new root t }
+        ensures holds { (root : Option ℕ) (t : NodeTree) → Holds self.old root t →
+            Keeps self.old self.new root t }
         ensures ok { OnOk result (0 < spare_of self.new) }
         ensures spare { spare_of self.old ≤ spare_of self.new }
     {
@@ -85,7 +86,8 @@ impl SpanStore {
     fn add_number(&mut self) -> Result<(), NoMemory>
         requires holds { (root : Option ℕ) × (t : NodeTree) × Holds self.old root t }
         requires none { self.old.free.items ≡ [] }
-        ensures holds { (root : Option ℕ) (t : NodeTree) → Holds self.old root t → Keeps self.old self.new root t }
+        ensures holds { (root : Option ℕ) (t : NodeTree) → Holds self.old root t →
+            Keeps self.old self.new root t }
         ensures numbers { self.new.numbers ≡ self.old.numbers }
         ensures ok { OnOk result (0 < length self.new.free.items) }
     {
@@ -99,15 +101,18 @@ impl SpanStore {
         Ok(())
     }
 
-    /// Keeps a span for a new place in the tree of that root, and answers the number of the new root.
+    /// Keeps a span for a new place in the tree of that root, and answers the number of
+    /// the new root.
     pub(crate) fn insert(&mut self, root: Option<u32>, place: u64, span: Span) -> u32
         requires holds { (t : NodeTree) × Holds self.old root t }
         requires room { 0 < spare_of self.old }
         requires new { hash.get nat_eq self.old.numbers place ≡ None }
         requires bounded { IsBounded span }
         requires positions { HasPositions span }
-        ensures kept { (t : NodeTree) → Holds self.old root t → (u : NodeTree) × Holds self.new (Some result) u
-            × (kept_of self.new.nodes.items (numbers_of u) ≡ insert_in_order (place, span) (kept_of self.old.nodes.items (numbers_of t))) }
+        ensures kept { (t : NodeTree) → Holds self.old root t →
+            (u : NodeTree) × Holds self.new (Some result) u
+            × (kept_of self.new.nodes.items (numbers_of u) ≡
+            insert_in_order (place, span) (kept_of self.old.nodes.items (numbers_of t))) }
         ensures spare { spare_of self.old ≤ spare_of self.new + 1 }
     {
         let Some(at) = self.free.pop() else {
@@ -117,14 +122,16 @@ impl SpanStore {
         insert_node(&mut self.nodes, root, at, place, span)
     }
 
-    /// Takes a place out of the tree of that root, and answers the new root; none where the place is
-    /// not kept.
+    /// Takes a place out of the tree of that root, and answers the new root; none where the place
+    /// is not kept.
     pub(crate) fn remove(&mut self, root: Option<u32>, place: u64) -> Option<Option<u32>>
         requires holds { (t : NodeTree) × Holds self.old root t }
         ensures kept { (t : NodeTree) → Holds self.old root t → MatchOption result
             ((hash.get nat_eq self.old.numbers place ≡ None) × (self.new ≡ self.old))
-            (λ left. IsSome (hash.get nat_eq self.old.numbers place) × ((u : NodeTree) × Holds self.new left u
-            × (kept_of self.new.nodes.items (numbers_of u) ≡ without_place place (kept_of self.old.nodes.items (numbers_of t))))) }
+            (λ left. IsSome (hash.get nat_eq self.old.numbers place)
+            × ((u : NodeTree) × Holds self.new left u
+            × (kept_of self.new.nodes.items (numbers_of u) ≡
+            without_place place (kept_of self.old.nodes.items (numbers_of t))))) }
         ensures spare { spare_of self.old ≤ spare_of self.new }
     {
         let gone = *self.numbers.get(&place)?;

@@ -50,7 +50,8 @@ fn end_under(nodes: &[StoredNode], at: Option<u32>) -> u64
 /// Puts these sides under a node.
 pub(super) fn link(nodes: &mut [StoredNode], at: u32, left: Option<u32>, right: Option<u32>)
     requires at { at < length nodes.old }
-    requires fits { max (the_height_under nodes.old left) (the_height_under nodes.old right) + 1 < 2 ^ 32 }
+    requires fits { max (the_height_under nodes.old left)
+        (the_height_under nodes.old right) + 1 < 2 ^ 32 }
     ensures { nodes.new ≡ linking nodes.old at left right }
 {
     let mut above = stored(nodes, at);

@@ -19,14 +19,16 @@ pub(super) fn insert_node(
     span: Span,
 ) -> u32
     requires within { at < length nodes.old }
-    requires tree { (t : NodeTree) × CanInsert (slice_set nodes.old at (alone_at place span)) root at t }
+    requires tree { (t : NodeTree)
+        × CanInsert (slice_set nodes.old at (alone_at place span)) root at t }
     ensures { InsertsTo (slice_set nodes.old at (alone_at place span)) nodes.new root at result }
 {
     nodes[at as usize] = StoredNode::alone(place, span);
     insert_under(nodes, root, at)
 }
 
-/// Takes a node out of the tree of a root and frees its number, and answers the root of what is left.
+/// Takes a node out of the tree of a root and frees its number, and answers the root of
+/// what is left.
 pub(super) fn remove_node(nodes: &mut [StoredNode], root: Option<u32>, gone: u32) -> Option<u32>
     requires within { gone < length nodes.old }
     requires tree { (t : NodeTree) × IsTree nodes.old root t }
