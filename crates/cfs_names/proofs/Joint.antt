@@ -20,11 +20,11 @@ pub recovers : {through : ℕ} {changes : List Change} {doubt : Option Change} {
 recovers {through} {changes} {doubt} {tree} {x} {records} behind gives = elim (gives.above x.through behind.low behind.high) [
   | inl all ↦ inl (ap (λ cs. changed_by x.tree cs) all ∙ behind.leads)
   | inr more ↦ inr (
-      more.0,
-      more.1,
-      ap (λ cs. changed_by x.tree cs) more.2 ∙ changed_by-last x.tree (drop (x.through - through) changes) more.0
-          ∙ ap (λ (t : Namespace). changed t more.0) behind.leads,
-    )
+    more.0,
+    more.1,
+    ap (λ cs. changed_by x.tree cs) more.2 ∙ changed_by-last x.tree (drop (x.through - through) changes) more.0
+        ∙ ap (λ (t : Namespace). changed t more.0) behind.leads,
+  )
 ]
 
 -- a change is appended

@@ -62,11 +62,11 @@ pub while_appended : {through : ℕ} {changes : List Change} {doubt : Option Cha
 while_appended {through} {changes} {doubt} {tree} {asked_old} {asked_new} {old} {new} change tables three distinct are m =
     on_records tables three distinct
     (λ mine behind size each has.
-      let is_behind = are (loaded mine) (loads_begun tables mine each) in
-      elim has [
-        | inl give ↦ inl (parts mine behind size is_behind give)
-        | inr give ↦ either change tree (parts mine behind size is_behind give)
-      ])
+    let is_behind = are (loaded mine) (loads_begun tables mine each) in
+    elim has [
+      | inl give ↦ inl (parts mine behind size is_behind give)
+      | inr give ↦ either change tree (parts mine behind size is_behind give)
+    ])
     m
   where
     either : (one : Change) (from : Namespace) {other : Option Change} {found : Namespace} → IsTreeOr from (Some one) found → IsTreeOr from other found ⊎ (found ≡ changed from one)

@@ -37,9 +37,9 @@ move_named namespace moved moves =
     let root = some_of (node_at nodes 0) IsRoot tree.root in
     let at = find-Some (λ (n : Node). n.rec == 0) nodes root.0 root.1 in
     named nodes namespace.next node tree member (λ one.
-      let own : node_of nodes node.ino ≡ Some node = All-In (λ (n : Node). node_of nodes n.ino ≡ Some n) nodes node tree.number_once member in
-      let of_root : node_of nodes root.0.ino ≡ Some root.0 = All-In (λ (n : Node). node_of nodes n.ino ≡ Some n) nodes root.0 tree.number_once at.0 in
-      let same_ino : root.0.ino ≡ node.ino = root.2.ino ∙ sym one in
-      let same : root.0 ≡ node = let both = sym of_root ∙ ap (λ ino. node_of nodes ino) same_ino ∙ own in cc in
-      let zero_rec : root.0.rec ≡ 0 = grind (arith, nat_tests, at.1) in
-      moves.moves (sym (ap (λ (n : Node). n.rec) same) ∙ zero_rec))
+    let own : node_of nodes node.ino ≡ Some node = All-In (λ (n : Node). node_of nodes n.ino ≡ Some n) nodes node tree.number_once member in
+    let of_root : node_of nodes root.0.ino ≡ Some root.0 = All-In (λ (n : Node). node_of nodes n.ino ≡ Some n) nodes root.0 tree.number_once at.0 in
+    let same_ino : root.0.ino ≡ node.ino = root.2.ino ∙ sym one in
+    let same : root.0 ≡ node = let both = sym of_root ∙ ap (λ ino. node_of nodes ino) same_ino ∙ own in cc in
+    let zero_rec : root.0.rec ≡ 0 = grind (arith, nat_tests, at.1) in
+    moves.moves (sym (ap (λ (n : Node). n.rec) same) ∙ zero_rec))

@@ -111,9 +111,9 @@ pub on_tables : {P Q : List (List ℕ) → Type 0} {asked_old asked_new : List A
     → MomentsOf IsImage P asked_old old asked_new new → MomentsOf IsImage Q asked_old (old ++ records) asked_new (new ++ records)
 on_tables {P} {Q} {asked_old} {asked_new} {old} {new} records three distinct give m =
     all_weaker (λ images h.
-      let first : h.before ≡ [] = no_images h.before h.of_front in
-      let whole : images ≡ h.mine ++ h.behind = h.is ∙ ap (λ front. front ++ (h.mine ++ h.behind)) first in
-      subst (λ is. Q is) (sym whole) (give h.mine h.behind (h.has.size ∙ three) h.has.has h.of_back))
+    let first : h.before ≡ [] = no_images h.before h.of_front in
+    let whole : images ≡ h.mine ++ h.behind = h.is ∙ ap (λ front. front ++ (h.mine ++ h.behind)) first in
+    subst (λ is. Q is) (sym whole) (give h.mine h.behind (h.has.size ∙ three) h.has.has h.of_back))
     (some_of [] records distinct (sized m))
 
 -- a call on the records
@@ -123,9 +123,9 @@ pub on_records : {P Q : List (List ℕ) → Type 0} {asked_old asked_new : List 
 on_records {P} {Q} {asked_old} {asked_new} {old} {new} tables three distinct give m =
     let longer : MomentsOf IsImage Q asked_old (tables ++ (old ++ [])) asked_new (tables ++ (new ++ [])) =
     all_weaker (λ images h.
-      let last : h.behind ≡ [] = no_images h.behind h.of_back in
-      let whole : images ≡ h.before ++ h.mine = h.is ∙ ap (λ back. h.before ++ (h.mine ++ back)) last ∙ ap (λ own. h.before ++ own) (append-nil h.mine) in
-      subst (λ is. Q is) (sym whole) (give h.before h.mine (each_length tables h.before h.of_front ∙ three) h.of_front h.has))
+    let last : h.behind ≡ [] = no_images h.behind h.of_back in
+    let whole : images ≡ h.before ++ h.mine = h.is ∙ ap (λ back. h.before ++ (h.mine ++ back)) last ∙ ap (λ own. h.before ++ own) (append-nil h.mine) in
+    subst (λ is. Q is) (sym whole) (give h.before h.mine (each_length tables h.before h.of_front ∙ three) h.of_front h.has))
     (some_of tables [] (subst (λ xs. apart (tables ++ xs)) (sym (append-nil old)) distinct) m) in
     subst (λ xs. MomentsOf IsImage Q asked_old (tables ++ xs) asked_new (tables ++ new)) (append-nil old)
     (subst (λ xs. MomentsOf IsImage Q asked_old (tables ++ (old ++ [])) asked_new (tables ++ xs)) (append-nil new) longer)

@@ -160,7 +160,11 @@ impl<R: Region + Drop> StoredTree<R> {
 
     /// Adds a node where all records stand. The checkpoint stores the tree without the node, so the
     /// tree with it is a second one, which takes its memory before the first step.
-    fn create_behind_checkpoint<P: Power>(&mut self, power: &mut P, node: &Node) -> Result<(), StoreRefusal>
+    fn create_behind_checkpoint<P: Power>(
+        &mut self,
+        power: &mut P,
+        node: &Node,
+    ) -> Result<(), StoreRefusal>
         requires { CanJoin (tree_of self.old) node.now }
         ensures makes { MakesChange (is_full self.old) (Change.Create node.now) result
             (held_of self.old) (held_of self.new) }
