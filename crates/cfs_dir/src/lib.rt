@@ -35,7 +35,7 @@ pub use node::Node;
 pub use path::{Component, LONGEST_COMPONENT, MOST_NAMES, Path, PathRefusal};
 pub use posix::Posix;
 pub use refusal::TreeRefusal;
-pub use rules::DEEPEST;
+pub use rules::{DEEPEST, path_refusal, paths_refusal};
 pub use tree::{INODE_END, RECORDS, Tree};
 pub use words::{NODE_WORDS, node_words};
 

@@ -11,8 +11,9 @@ use crate::posix::Posix;
 /// The greatest number of names in a path.
 pub const DEEPEST: usize = 16;
 
-/// The refusal that a path alone gives, before the tree is looked at.
-pub(crate) fn path_refusal(names: &[Component]) -> Option<Posix>
+/// The refusal that a path alone gives, before the tree is looked at: a name `.` or `..` with
+/// InvalidArgument, and a name of more than 40 bytes or more than 16 names with NameTooLong.
+pub fn path_refusal(names: &[Component]) -> Option<Posix>
     ensures { result ≡ path_refusal names.now }
 {
     if has_dots(names) {
@@ -24,8 +25,9 @@ pub(crate) fn path_refusal(names: &[Component]) -> Option<Posix>
     None
 }
 
-/// The refusal that two paths alone give.
-pub(crate) fn paths_refusal(from: &[Component], to: &[Component]) -> Option<Posix>
+/// The refusal that the two paths of a rename alone give: a name `.` or `..` or the root with
+/// InvalidArgument, and too long a name or too many with NameTooLong.
+pub fn paths_refusal(from: &[Component], to: &[Component]) -> Option<Posix>
     ensures { result ≡ paths_refusal from.now to.now }
 {
     if has_dots(from) || has_dots(to) || from.is_empty() || to.is_empty() {

@@ -1,0 +1,10 @@
+//! Grants: who has which queue for which file.
+#![tactic(auto)]
+
+mod grant;
+mod grants;
+#[cfg(test)]
+mod tests;
+
+pub use grant::Grant;
+pub use grants::{Grants, MOST_GRANTS};
