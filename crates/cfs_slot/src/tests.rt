@@ -173,7 +173,8 @@ const STAGED: [u64; 7] = [0, 0, 2, 5, 65_541, 9, 0x6f_6c6c_6568];
 
 const OPEN: [u64; 7] = [7, 0, 2, 5, 65_541, 9, 0x6f_6c6c_6568];
 
-// The stage makes seven steps and the gate two. What a crash leaves that keeps what was durable, and one that keeps what was present.
+// The stage makes seven steps and the gate two. What a crash leaves that keeps what was durable,
+// and one that keeps what was present.
 #[test]
 fn a_stop_leaves_the_gate_closed_or_the_request_whole(rt: HostRuntime) -> Result<(), Fail> {
     let hello = write(rt.alloc(), 5, b"hello")?;
@@ -207,7 +208,8 @@ enum Call {
     Settle,
 }
 
-/// A slot after this call, with a stop at its nth writing step. A doubt is one whose gate was written and not persisted.
+/// A slot after this call, with a stop at its nth writing step. A doubt is one whose gate was
+/// written and not persisted.
 fn refused(
     slot: Slot<MemRegion>,
     meter: &mut Meter,
@@ -278,8 +280,8 @@ fn fields_left(region: MemRegion, k: u64, fields: [u64; 4]) -> bool {
     leaves(region, k, &fields)
 }
 
-// What is left of the four fields, where a crash keeps what was durable and where it keeps what was present. Each call makes
-// two steps: the word and the persist.
+// What is left of the four fields, where a crash keeps what was durable and where it keeps what was
+// present. Each call makes two steps: the word and the persist.
 #[test]
 fn a_refused_call_leaves_its_word_old_or_new(rt: HostRuntime) -> Result<(), Fail> {
     let hello = write(rt.alloc(), 5, b"hello")?;
@@ -373,7 +375,8 @@ fn recovery_finds_the_fields(rt: HostRuntime) -> Result<(), Fail> {
     Ok(())
 }
 
-/// The first words of a slot in which these bytes were staged as a tail, with a stop at the nth step.
+/// The first words of a slot in which these bytes were staged as a tail, with a stop at the nth
+/// step.
 fn part_staged(
     slot: Slot<MemRegion>,
     meter: &mut Meter,
@@ -392,7 +395,8 @@ fn part_staged(
 
 const TAIL: [u64; 7] = [0, 0, 2, 0, 262_149, 9, 0x6f_6c6c_6568];
 
-/// Whether a tail of five bytes, staged with a stop at the nth step, is left with these first words by a crash of this pick.
+/// Whether a tail of five bytes, staged with a stop at the nth step, is left with these first words
+/// by a crash of this pick.
 fn tail_leaves(alloc: Global, n: u64, k: u64, words: &[u64]) -> Result<bool, Fail> {
     let mut meter = Meter::calm(alloc);
     let region = part_staged(empty(alloc)?, &mut meter, n, b"hello");
