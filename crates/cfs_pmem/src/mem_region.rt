@@ -31,14 +31,13 @@ impl Model for MemRegion {
 
     ghost use Rattle.std.specs.Prelude.{[]};
     ghost use Rattle.cfs_pmem.specs.Backed.{IsBacked};
-    ghost use Rattle.cfs_pmem.specs.Range.{range_of};
 
     ghost view = { λ r. record {
       seen = record { device = r.device; also = []; history = r.history };
       faults = r.faults;
     } };
 
-    ghost invariant = { λ r. IsBacked r.history (range_of r.dirty) r.durable.items r.present.items };
+    ghost invariant = { λ r. IsBacked r.history r.dirty r.durable.items r.present.items };
 }
 
 impl MemRegion {

@@ -11,7 +11,6 @@ pub struct Run {
     pub before: Dirty,
     pub from: u32,
     pub to: u32,
-    pub ghost ordered: { from ≤ to },
 }
 
 impl Run {
@@ -19,7 +18,8 @@ impl Run {
 
     /// No place of `len`.
     pub fn none(len: u32) -> Run
-        ensures { range_of result ≡ record { from = len; to = 0 } }
+        ensures range { range_of result ≡ record { from = len; to = 0 } }
+        ensures ordered { result.from ≤ result.to }
     {
         Run {
             before: Dirty::none(len),
@@ -43,8 +43,10 @@ impl Run {
     /// Adds a place.
     #[inline]
     pub fn add(&mut self, at: u32)
-        requires { at + 1 < 2 ^ 32 }
-        ensures { range_of self.new ≡ with_range at (at + 1) (range_of self.old) }
+        requires fits { at + 1 < 2 ^ 32 }
+        requires ordered { self.old.from ≤ self.old.to }
+        ensures range { range_of self.new ≡ with_range at (at + 1) (range_of self.old) }
+        ensures ordered { self.new.from ≤ self.new.to }
     {
         if at != self.to {
             self.before = self.range();

@@ -2,7 +2,7 @@ ghost use Rattle.std.specs.Prelude.{IfOk};
 ghost use Rattle.cfs_pmem.specs.Images.{IsSure};
 ghost use Rattle.cfs_slot.specs.Regions.{of_staged};
 
-use crate::{Doubt, Found, Live, Slot, Staged, found, is_stageable};
+use crate::{Doubt, Found, Live, Slot, Staged, found, is_stageable, layout};
 use cfs_file::{Bytes, Request};
 use cfs_pmem::{MemRegion, Meter, Pick, Region};
 use cfs_vec::FixedVec;
@@ -167,6 +167,11 @@ fn leaves(mut region: MemRegion, k: u64, words: &[u64]) -> bool {
     begins_with(&region, words)
 }
 
+/// The same of a slot's first seven words.
+fn words_left(region: MemRegion, k: u64, words: [u64; 7]) -> bool {
+    leaves(region, k, &words)
+}
+
 const EMPTY: [u64; 7] = [0, 0, 0, 0, 0, 0, 0];
 
 const STAGED: [u64; 7] = [0, 0, 2, 5, 65_541, 9, 0x6f_6c6c_6568];
@@ -193,7 +198,7 @@ fn a_stop_leaves_the_gate_closed_or_the_request_whole(rt: HostRuntime) -> Result
         for (k, words) in [(0, durable), (1, present)] {
             let mut meter = Meter::calm(rt.alloc());
             let region = stopped(empty(rt.alloc())?, &mut meter, &hello, n).ok_or("no slot")?;
-            assert!(rt; leaves(region, k, &words), "stop {n}, pick {k}");
+            assert!(rt; words_left(region, k, words), "stop {n}, pick {k}");
         }
     }
     Ok(())
@@ -413,4 +418,31 @@ fn a_stop_leaves_a_tail_in_part(rt: HostRuntime) -> Result<(), Fail> {
     assert!(rt; tail_leaves(rt.alloc(), 7, 1, &TAIL)?);
     assert!(rt; tail_leaves(rt.alloc(), 8, 0, &TAIL)?);
     Ok(())
+}
+
+#[test]
+fn the_constants_are_these(rt: HostRuntime) {
+    for (place, expected) in [
+        (layout::GATE, 0),
+        (layout::MARK, 1),
+        (layout::INO, 2),
+        (layout::OFFSET, 3),
+        (layout::KIND, 4),
+        (layout::GRANT, 5),
+        (layout::PAYLOAD, 6),
+        (layout::SLOT_WORDS, 518),
+        (layout::FIRST_SLOT, 323),
+    ] {
+        assert_eq!(rt; place, expected);
+    }
+    for (number, expected) in [
+        (layout::WRITE, 1),
+        (layout::TRUNCATE, 2),
+        (layout::LONG_WRITE, 3),
+        (layout::TAIL, 4),
+        (layout::TAILS_UNIT, 4_294_967_296),
+    ] {
+        assert_eq!(rt; number, expected);
+    }
+    assert_eq!(rt; (layout::MOST_TAILS, layout::QUEUE_SLOTS), (15, 16));
 }

@@ -1,15 +1,15 @@
 use Rattle.std.proofs.Common.{◌≡◌, ◌∙◌, List, ℕ, length, ap, sym, subst, arith, rules}
 use Rattle.cfs_pmem.specs.Images.{IsImage, MemoryRegion, WordStep, words_now, words_kept}
 use Rattle.cfs_pmem.specs.Draws.{words_left}
-use Rattle.cfs_pmem.specs.Range.{range_of}
 use Rattle.cfs_pmem.proofs.MemRegions.{backed_anew, left_is_image}
 use Rattle.cfs_pmem.proofs.mem_region.MemRegion.crash.Goals as goal
 
 pub invariant_of-self : goal.invariant_of-self
 invariant_of-self c =
     rw c.of.ensures
-    (backed_anew c.leave.new.durable.items c.leave.new.present.items (range_of c.none-self-inside.result) c.leave.ensures.durable
+    (backed_anew c.leave.new.durable.items c.leave.new.present.items c.none-self-inside.result c.leave.ensures.durable
     (search rules)
+    c.none-self-inside.ensures.ordered
     (omega (arith, c.leave.ensures.size, c.self.invariant.differ.size, c.self.invariant.small)))
 
 pub returns-clause-image : goal.returns-clause-image
