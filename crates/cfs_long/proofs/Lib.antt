@@ -3,3 +3,4 @@ pub mod GateLemmas
 pub mod ListLemmas
 pub mod ResultLemmas
 pub mod ShapeLemmas
+pub mod WholeLemmas

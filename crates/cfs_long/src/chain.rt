@@ -9,6 +9,7 @@ ghost use Rattle.cfs_slot.specs.Tails.{AreAbove};
 ghost use Rattle.cfs_slot.specs.Words.{request_of};
 ghost use Rattle.cfs_long.specs.After.{after_chain, after_tails, from_last};
 ghost use Rattle.cfs_long.specs.Chain.{AreChain, AreClosed, HasCauseAmong, IsChained, StagesChain, StagesTails};
+ghost use Rattle.cfs_long.specs.Whole.{StandsWhole};
 
 use crate::lists::{behind_head, one, with_parts, with_slots};
 use cfs_file::{BLOCK_LEN, Request};
@@ -84,7 +85,8 @@ fn stage_long<R: Region + Drop, P: Power>(
     requires long { IsLong request.now }
     requires count { length (of_slots others) + 1
         ≡ slots_for (length (staged_payload request.now)) }
-    requires above { AreAbove (R.seen (of_slot head)).device (devices_in R.seen (from_last others)) }
+    requires above { AreAbove (R.seen (of_slot head)).device
+        (devices_in R.seen (from_last others)) }
     ensures stages { StagesChain R.seen R.faults R.obeys_power ino grant request.now
         (slot_numbers R.seen (from_last others)) (is_ok result)
         (P.asked power.old) (of_slot head ∷ from_last others)
@@ -106,9 +108,9 @@ fn stage_long<R: Region + Drop, P: Power>(
 }
 
 /// Stages a request in slots of one queue, ascending, of which the first is its head: a write or an
-/// append of 1 to 65,536 bytes, or a truncate, in as many slots as it takes. A long write stages its
-/// tails, ascending, and then its head. Refuses for a device fault alone, and then gives the slots
-/// back, in order.
+/// append of 1 to 65,536 bytes, or a truncate, in as many slots as it takes. A long write stages
+/// its tails, ascending, and then its head. Refuses for a device fault alone, and then gives the
+/// slots back, in order.
 pub fn stage_chain<R: Region + Drop, P: Power>(
     mut slots: FixedVec<Slot<R>, QUEUE_SLOTS>,
     power: &mut P,
@@ -132,6 +134,9 @@ pub fn stage_chain<R: Region + Drop, P: Power>(
         request_of (words_of (R.seen (of_staged staged))) (words_in R.seen (tails_of_staged staged))
         ≡ staged_request request.now) }
     ensures sure { IfOk result (λ staged. IsSure (R.seen (of_staged staged))) }
+    // And so it does in every image of these slots together.
+    ensures stands { IfOk result (λ staged. StandsWhole (staged_request request.now)
+        (map R.seen (of_staged staged ∷ tails_of_staged staged))) }
     ensures slots { devices_in R.seen (after_chain result) ≡ devices_in R.seen (of_slots slots) }
     // At each moment the gates of all the slots are closed in every image.
     ensures moments { AreDistinct (all_devices (map R.seen (of_slots slots))) →

@@ -93,7 +93,8 @@ fn found_first(mut regions: FixedVec<MemRegion, 16>, meter: &mut Meter) -> Optio
     }
 }
 
-// A write of one slot, and then one of each number of tails, of which the last has from 274 to 4096 bytes.
+// A write of one slot, and then one of each number of tails, of which the last has from 274 to 4096
+// bytes.
 #[test]
 fn a_request_is_found_in_its_slots(rt: HostRuntime) -> Result<(), Fail> {
     for tails in 0..16_usize {
@@ -124,7 +125,8 @@ fn a_request_is_found_in_its_slots(rt: HostRuntime) -> Result<(), Fail> {
     Ok(())
 }
 
-/// The fields of a slot that a crash of this pick leaves, and how many words of its payload have letters.
+/// The fields of a slot that a crash of this pick leaves, and how many words of its payload have
+/// letters.
 fn left(region: &mut MemRegion, pick: u64) -> ([u64; 6], usize) {
     region.crash(&mut Pick::new(pick));
     let mut fields = [0; 6];
@@ -147,8 +149,8 @@ const HEAD: [u64; 6] = [0, 0, 2, 5, 8_590_136_199, 9];
 
 const OPEN: [u64; 6] = [7, 0, 2, 5, 8_590_136_199, 9];
 
-/// The head and the tail of 5000 letters after a crash of this pick, where they were staged and opened with a
-/// stop at the nth writing step.
+/// The head and the tail of 5000 letters after a crash of this pick, where they were staged and
+/// opened with a stop at the nth writing step.
 fn stopped(alloc: Global, n: u64, pick: u64) -> Result<[([u64; 6], usize); 2], Fail> {
     let bytes = Bytes::from_vec(vec![in alloc; b'a'; 5000]?);
     let request = Request::Write { offset: 5, bytes };
@@ -160,8 +162,8 @@ fn stopped(alloc: Global, n: u64, pick: u64) -> Result<[([u64; 6], usize); 2], F
     Ok([left(&mut head, pick), left(&mut tail, pick)])
 }
 
-// The tail takes 119 steps, the head 518 and the gate 2. What a crash leaves of the head and of the tail that
-// keeps what was durable, and one that keeps what was present.
+// The tail takes 119 steps, the head 518 and the gate 2. What a crash leaves of the head and of the
+// tail that keeps what was durable, and one that keeps what was present.
 #[test]
 fn a_stop_leaves_every_gate_closed_or_the_write_whole(rt: HostRuntime) -> Result<(), Fail> {
     for (n, durable, present) in [

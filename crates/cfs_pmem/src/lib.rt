@@ -12,6 +12,7 @@ mod pick;
 mod power;
 mod region;
 mod regions;
+mod run;
 mod trace;
 
 pub use dirty::Dirty;

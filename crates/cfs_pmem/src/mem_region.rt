@@ -3,12 +3,12 @@ ghost use Rattle.std.specs.Prelude.{◌≡◌, ◌+◌, ◌-◌, ◌^◌, ◌<�
 ghost use Rattle.cfs_pmem.specs.Images.{began, words_of, words_kept, IsImage};
 ghost use Rattle.cfs_pmem.specs.Draws.{words_left, after_words};
 
-use crate::dirty::Dirty;
 use crate::fault::DeviceFault;
 use crate::history::History;
 use crate::pick::Pick;
 use crate::power::Power;
 use crate::region::Region;
+use crate::run::Run;
 use std::alloc::{AllocFailed, Global};
 use std::marker::Model;
 
@@ -19,7 +19,7 @@ pub struct MemRegion {
     device: u32,
     durable: Vec<u64>,
     present: Vec<u64>,
-    dirty: Dirty,
+    dirty: Run,
     history: History,
     faults: u64,
 }
@@ -57,7 +57,7 @@ impl MemRegion {
             Ok(durable) => Ok(MemRegion {
                 device,
                 durable,
-                dirty: Dirty::none(words.len() as u32),
+                dirty: Run::none(words.len() as u32),
                 history: History::of(&words),
                 present: words,
                 faults: 0,
@@ -85,7 +85,7 @@ impl MemRegion {
         ensures faults { self.new.faults ≡ self.old.faults }
     {
         leave(pick, &mut self.durable, &mut self.present);
-        self.dirty = Dirty::none(self.present.len() as u32);
+        self.dirty = Run::none(self.present.len() as u32);
         self.history = History::of(&self.present);
     }
 
@@ -146,7 +146,7 @@ impl Region for MemRegion {
             return Err(self.fault());
         }
         self.present[at as usize] = word;
-        self.dirty.add(at, at + 1);
+        self.dirty.add(at);
         self.history.change(&self.present);
         Ok(())
     }
@@ -158,8 +158,8 @@ impl Region for MemRegion {
             self.history.change(&self.present);
             return Err(self.fault());
         }
-        self.dirty.copy(&self.present, &mut self.durable);
-        self.dirty = Dirty::none(self.present.len() as u32);
+        self.dirty.range().copy(&self.present, &mut self.durable);
+        self.dirty = Run::none(self.present.len() as u32);
         self.history.persist(&self.present);
         Ok(())
     }

@@ -8,6 +8,7 @@ ghost use Rattle.cfs_pmem.specs.Answered.{metered_prop};
 use crate::power::Power;
 use crate::trace::{Asked, Trace};
 use std::alloc::{AllocError, Global};
+use std::mem;
 
 /// Whether a stop is set, and how far off it is.
 #[derive(Clone, Copy, Debug, PartialEq, Eq)]
@@ -203,7 +204,16 @@ impl Power for Meter {
 
     #[inline]
     fn step(&mut self, device: u32, writing: bool) -> bool {
-        let allowed = !self.armed || count(&mut self.supply, &mut self.plans, device, writing);
+        let mut allowed = true;
+        if self.armed {
+            // Counted on copies: with no pointer to it handed on, a meter can stand in registers.
+            let nothing = Vec::new(*self.plans.allocator());
+            let mut plans = mem::replace(&mut self.plans, nothing);
+            let mut supply = self.supply;
+            allowed = count(&mut supply, &mut plans, device, writing);
+            self.supply = supply;
+            self.plans = plans;
+        }
         self.trace.push(Asked::Step(device, writing, allowed));
         allowed
     }

@@ -69,7 +69,7 @@ pub trait Region {
 
 /// Sets a word and persists it: two writing steps, or as many as there are up to the one that
 /// fails.
-#[inline]
+#[inline(always)]
 pub fn set_word<R: Region, P: Power>(
     region: &mut R,
     power: &mut P,
@@ -88,6 +88,7 @@ pub fn set_word<R: Region, P: Power>(
 
 /// Writes `words` from the place `from` on, one after another: a writing step a word, or as many as
 /// there are up to one that fails.
+#[inline(always)]
 pub fn write_words<R: Region, P: Power>(
     region: &mut R,
     power: &mut P,

@@ -15,7 +15,8 @@ payload_words (suc n) bytes = little_number 8 bytes ∷ payload_words n (drop 8 
 abbrev pub puts_all : ℕ → List ℕ → List WordOp
 puts_all from words = puts from words (length words)
 
--- Words 1 to 5, the words of a payload, and a persist. No slot is written with a mark; word 4 is the kind's.
+-- Words 1 to 5, the words of a payload, and a persist. No slot is written with a mark; word 4 is
+-- the kind's.
 abbrev pub slot_ops : ℕ → ℕ → ℕ → ℕ → List ℕ → List WordOp
 slot_ops ino offset kind grant payload =
     persist ∷ (puts_all 6 (payload_words (words_for (length payload)) payload)
@@ -24,7 +25,9 @@ slot_ops ino offset kind grant payload =
 -- of a request that one slot holds
 abbrev pub stage_ops : ℕ → Request → ℕ → List WordOp
 stage_ops ino request grant =
-    slot_ops ino (staged_offset request) (staged_kind request * 65536 + length (staged_payload request)) grant (staged_payload request)
+    slot_ops ino (staged_offset request)
+    (staged_kind request * 65536 + length (staged_payload request)) grant
+    (staged_payload request)
 
 -- of a part of a long write, as a tail
 abbrev pub part_ops : ℕ → List ℕ → ℕ → List WordOp
@@ -33,7 +36,8 @@ part_ops ino part grant = slot_ops ino 0 (4 * 65536 + length part) grant part
 -- of a long write's head, whose tails have these numbers
 abbrev pub head_ops : ℕ → Request → ℕ → List ℕ → List WordOp
 head_ops ino request grant numbers =
-    slot_ops ino (staged_offset request) (set_of numbers * 2 ^ 32 + (3 * 65536 + (length (staged_payload request) - 1))) grant
+    slot_ops ino (staged_offset request)
+    (set_of numbers * 2 ^ 32 + (3 * 65536 + (length (staged_payload request) - 1))) grant
     (take 4096 (staged_payload request))
 
 -- a read of each of the first n words

@@ -23,8 +23,8 @@ reads_from device at (suc k) = record { device = device; at = at + k } ∷ reads
 abbrev pub area_reads : ℕ → ℕ → ℕ → List SlotRead
 area_reads device from to = reads_from device (6 + from / 8) ((to + 7) / 8 - from / 8)
 
--- The reads of `len` bytes of a payload from a place on, where slots with these device numbers hold 4096 bytes each:
--- at most 4096 bytes stand in at most two of them.
+-- The reads of `len` bytes of a payload from a place on, where slots with these device numbers hold
+-- 4096 bytes each: at most 4096 bytes stand in at most two of them.
 abbrev pub payload_reads : List ℕ → ℕ → ℕ → List SlotRead
 payload_reads devices from len =
     let near : ℕ = min len (4096 - from % 4096) in
@@ -38,7 +38,8 @@ pub record ReadsStop (reads : List SlotRead) (asked_old asked_new : List Asked) 
   pub asked : asked_new ≡ last_refused read_asks (drop left reads) ++ asked_old
 
 -- A call makes these reads: on Ok all of them, on Err a front.
-pub record DoesReads {T E : Type 0} (reads : List SlotRead) (result : Result T E) (asked_old asked_new : List Asked) : Type 0 where
+pub record DoesReads {T E : Type 0} (reads : List SlotRead) (result : Result T E)
+    (asked_old asked_new : List Asked) : Type 0 where
   pub all : OnOk result (asked_new ≡ all_allowed read_asks reads ++ asked_old)
   pub front : OnErr result (ReadsStop reads asked_old asked_new)
 
@@ -61,7 +62,8 @@ SomeRose [] nows = ⊥
 SomeRose (before ∷ befores) [] = ⊥
 SomeRose (before ∷ befores) (now ∷ nows) = Rose before now ⊎ SomeRose befores nows
 
--- The counts of a call's devices tell how it ended: one rose where it failed, and all are as before where it did not.
+-- The counts of a call's devices tell how it ended: one rose where it failed, and all are as before
+-- where it did not.
 pub record HaveCause {T E : Type 0} (befores nows : List ℕ) (result : Result T E) : Type 0 where
   pub later : NoneFell befores nows
   pub failed : OnErr result (SomeRose befores nows)

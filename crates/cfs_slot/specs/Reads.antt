@@ -15,14 +15,19 @@ regions_of live = of_live live ∷ tails_of_live live
 
 -- its payload, where `seen` tells what a region holds
 abbrev pub payload_in : {R : Type 0} {g : _} → (R → Seen WordStep) → Live R g → List ℕ
-payload_in seen live = payload_of (words_of (seen (of_live live))) (words_in seen (tails_of_live live))
+payload_in seen live =
+    payload_of (words_of (seen (of_live live))) (words_in seen (tails_of_live live))
 
 -- A call reads bytes from a place on of the payload of one of some slots.
-pub record ReadsSlot {R T E : Type 0} (seen : R → Seen WordStep) (faults : R → ℕ) (obeys_power : Bool) (slot from : ℕ) (result : Result T E)
-    (asked_old : List Asked) (old : List R) (out_old : List ℕ) (asked_new : List Asked) (new : List R) (out_new : List ℕ) : Type 0 where
-  pub bytes : OnOk result (out_new ≡ take (length out_old) (drop from (area_of (get_or (words_in seen old) slot []))))
+pub record ReadsSlot {R T E : Type 0} (seen : R → Seen WordStep) (faults : R → ℕ)
+    (obeys_power : Bool) (slot from : ℕ) (result : Result T E)
+    (asked_old : List Asked) (old : List R) (out_old : List ℕ) (asked_new : List Asked)
+    (new : List R) (out_new : List ℕ) : Type 0 where
+  pub bytes : OnOk result
+      (out_new ≡ take (length out_old) (drop from (area_of (get_or (words_in seen old) slot []))))
   pub same : map seen new ≡ map seen old
   pub does : IsTrue obeys_power →
-      DoesReads (area_reads (get_or (devices_in seen old) slot 0) from (from + length out_old)) result asked_old asked_new
+      DoesReads (area_reads (get_or (devices_in seen old) slot 0) from (from + length out_old))
+      result asked_old asked_new
   pub asks : AsksOnly (flat_map devices_of (map seen old)) asked_old asked_new
   pub cause : HaveCause (map faults old) (map faults new) result

@@ -55,11 +55,13 @@ after_part (Ok part) = part.region
 after_part (Err slot) = slot.region
 
 -- after `stage_head`
-abbrev pub after_head : {R : Type 0} {g : _} {N : ℕ} → Result (Staged R g) (Slot R g × FixedVec (Part R g) N) → R
+abbrev pub after_head : {R : Type 0} {g : _} {N : ℕ}
+    → Result (Staged R g) (Slot R g × FixedVec (Part R g) N) → R
 after_head (Ok staged) = staged.region
 after_head (Err refused) = refused.0.region
 
-abbrev pub tails_after_head : {R : Type 0} {g : _} {N : ℕ} → Result (Staged R g) (Slot R g × FixedVec (Part R g) N) → List R
+abbrev pub tails_after_head : {R : Type 0} {g : _} {N : ℕ}
+    → Result (Staged R g) (Slot R g × FixedVec (Part R g) N) → List R
 tails_after_head (Ok staged) = of_parts staged.tails
 tails_after_head (Err refused) = of_parts refused.1
 
@@ -73,12 +75,14 @@ tails_after_open (Ok live) = of_parts live.tails
 tails_after_open (Err doubt) = of_parts doubt.tails
 
 -- after `settle`: all slots, the head first
-abbrev pub after_settle : {R : Type 0} {g : _} {N : ℕ} → Result (FixedVec (Slot R g) N) (Doubt R g) → List R
+abbrev pub after_settle : {R : Type 0} {g : _} {N : ℕ}
+    → Result (FixedVec (Slot R g) N) (Doubt R g) → List R
 after_settle (Ok slots) = of_slots slots
 after_settle (Err doubt) = doubt.region ∷ of_parts doubt.tails
 
 -- after `close_gate`
-abbrev pub after_close : {R : Type 0} {g : _} {N : ℕ} → Result (FixedVec (Slot R g) N) (Live R g) → List R
+abbrev pub after_close : {R : Type 0} {g : _} {N : ℕ}
+    → Result (FixedVec (Slot R g) N) (Live R g) → List R
 after_close (Ok slots) = of_slots slots
 after_close (Err live) = live.region ∷ of_parts live.tails
 

@@ -21,7 +21,8 @@ IsLong (Truncate n) = ⊥
 IsLong (Read offset count) = ⊥
 IsLong Sync = ⊥
 
--- What is staged of a request: an append is staged as a write at offset 0, whose offset is set when it is known.
+-- What is staged of a request: an append is staged as a write at offset 0, whose offset is set when
+-- it is known.
 
 abbrev pub staged_offset : Request → ℕ
 staged_offset (Write offset bytes) = offset
@@ -62,7 +63,8 @@ slots_for count = (count - 1) / 4096 + 1
 -- The payload's words are its bytes, and zero bytes up to the end of the last word.
 abbrev pub HoldsPayload : List ℕ → List ℕ → Type 0
 HoldsPayload payload words =
-    bytes_of (take (words_for (length payload)) (drop 6 words)) ≡ payload ++ replicate (8 * words_for (length payload) - length payload) 0
+    bytes_of (take (words_for (length payload)) (drop 6 words)) ≡ payload ++
+    replicate (8 * words_for (length payload) - length payload) 0
 
 -- The words hold the request whole, behind a closed gate and without a mark.
 pub record IsStaged (ino : ℕ) (request : Request) (grant : ℕ) (words : List ℕ) : Type 0 where
@@ -88,15 +90,18 @@ pub record IsPart (ino : ℕ) (part : List ℕ) (grant : ℕ) (words : List ℕ)
   pub grant_is : grant_of words ≡ grant
   pub payload_is : HoldsPayload part words
 
--- The tails, whose words are listed, hold these bytes in order: 4096 in each but the last, and in that what is left.
+-- The tails, whose words are listed, hold these bytes in order: 4096 in each but the last, and in
+-- that what is left.
 abbrev pub AreParts : ℕ → ℕ → List ℕ → List (List ℕ) → Type 0
 AreParts ino grant bytes [] = length bytes ≡ 0
 AreParts ino grant bytes (words ∷ tails) =
-    (0 < length bytes) × IsPart ino (take 4096 bytes) grant words × AreParts ino grant (drop 4096 bytes) tails
+    (0 < length bytes) × IsPart ino (take 4096 bytes) grant words ×
+    AreParts ino grant (drop 4096 bytes) tails
 
--- The words of a head and those of its tails, which have these numbers, hold the request whole, behind closed gates
--- and without a mark.
-pub record IsStagedLong (ino : ℕ) (request : Request) (grant : ℕ) (numbers words : List ℕ) (tails : List (List ℕ)) : Type 0 where
+-- The words of a head and those of its tails, which have these numbers, hold the request whole,
+-- behind closed gates and without a mark.
+pub record IsStagedLong (ino : ℕ) (request : Request) (grant : ℕ) (numbers words : List ℕ)
+    (tails : List (List ℕ)) : Type 0 where
   pub gate_is : gate_of words ≡ 0
   pub mark_is : mark_of words ≡ 0
   pub ino_is : ino_of words ≡ ino

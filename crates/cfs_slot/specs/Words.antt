@@ -21,14 +21,15 @@ ino_of words = get_or words 2 0
 abbrev pub offset_of : List ℕ → ℕ
 offset_of words = get_or words 3 0
 
--- Word 4 has the kind, times 65,536: 1 of a write that one slot holds, 2 of a truncate, 3 of the head of a longer
--- write and 4 of its tails.
+-- Word 4 has the kind, times 65,536: 1 of a write that one slot holds, 2 of a truncate, 3 of the
+-- head of a longer write and 4 of its tails.
 abbrev pub kind_of : List ℕ → ℕ
 kind_of words = get_or words 4 0 % 2 ^ 32 / 65536
 
 -- It also has the length of the payload, of a head that of the whole write less one.
 abbrev pub count_of : List ℕ → ℕ
-count_of words = if kind_of words == 3 then get_or words 4 0 % 65536 + 1 else get_or words 4 0 % 65536
+count_of words =
+    if kind_of words == 3 then get_or words 4 0 % 65536 + 1 else get_or words 4 0 % 65536
 
 -- And of a head a bit for the number of each tail, from 2^32 on.
 abbrev pub tails_of : List ℕ → ℕ
@@ -45,7 +46,8 @@ bytes_of words = flat_map (to_le_bytes w64) words
 abbrev pub area_of : List ℕ → List ℕ
 area_of words = bytes_of (drop 6 words)
 
--- the payload of a head and its tails, whose words are listed in order; an entry of one slot has no tails
+-- the payload of a head and its tails, whose words are listed in order; an entry of one slot has no
+-- tails
 abbrev pub payload_of : List ℕ → List (List ℕ) → List ℕ
 payload_of words tails = take (count_of words) (flat_map area_of (words ∷ tails))
 
@@ -63,7 +65,9 @@ found_of words = record {
 
 -- a write of its payload at its offset, or a truncate to its offset
 abbrev pub request_of : List ℕ → List (List ℕ) → Request
-request_of words tails = if kind_of words == 2 then Truncate (offset_of words) else Write (offset_of words) (payload_of words tails)
+request_of words tails =
+    if kind_of words == 2 then Truncate (offset_of words)
+    else Write (offset_of words) (payload_of words tails)
 
 -- the same at another offset
 abbrev pub with_offset : ℕ → Request → Request
@@ -77,13 +81,15 @@ with_offset at Sync = Sync
 abbrev pub IsClosed : List ℕ → Type 0
 IsClosed words = gate_of words ≡ 0
 
--- The words are a live entry of the file with this inode number: the gate is open, and it is no no-op.
+-- The words are a live entry of the file with this inode number: the gate is open, and it is no
+-- no-op.
 abbrev pub is_live : ℕ → List ℕ → Bool
 is_live ino words = not (gate_of words == 0) && not (mark_of words == 1) && (ino_of words == ino)
 
 -- the place and the request of the file's live entry, if it is one
 abbrev pub live_entry : ℕ → List ℕ → List (List ℕ) → Option (ℕ × Request)
-live_entry ino words tails = if is_live ino words then Some (gate_of words, request_of words tails) else None
+live_entry ino words tails =
+    if is_live ino words then Some (gate_of words, request_of words tails) else None
 
 -- What a slot keeps in each image, beside its gate.
 

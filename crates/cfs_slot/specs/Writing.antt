@@ -11,7 +11,8 @@ use Rattle.cfs_slot.specs.Words.{gate_of, mark_of, ino_of, offset_of, grant_of, 
 
 -- A call writes a slot by these operations, the last of which persists it.
 pub record WritesSlot {T E : Type 0} (obeys_power : Bool) (ops : List WordOp) (result : Result T E)
-    (asked_old : List Asked) (old : Seen WordStep) (asked_new : List Asked) (new : Seen WordStep) : Type 0 where
+    (asked_old : List Asked) (old : Seen WordStep)
+    (asked_new : List Asked) (new : Seen WordStep) : Type 0 where
   pub ok : OnOk result (new ≡ after_all word_done ops old)
   -- what was written stands in every image
   pub sure : OnOk result (IsSure new)
@@ -24,7 +25,8 @@ pub record WritesSlot {T E : Type 0} (obeys_power : Bool) (ops : List WordOp) (r
 
 -- These operations were all done, and at each moment of them the gate is closed in every image.
 pub record HasDone (obeys_power : Bool) (ops : List WordOp)
-    (asked_old : List Asked) (old : Seen WordStep) (asked_new : List Asked) (new : Seen WordStep) : Type 0 where
+    (asked_old : List Asked) (old : Seen WordStep)
+    (asked_new : List Asked) (new : Seen WordStep) : Type 0 where
   pub state : new ≡ after_all word_done ops old
   pub asked : IsTrue obeys_power → asked_new ≡ all_allowed (word_asks old.device) ops ++ asked_old
   pub size : length (words_of new) ≡ length (words_of old)

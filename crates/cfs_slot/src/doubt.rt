@@ -14,8 +14,8 @@ use crate::slots::{all_regions, all_slots};
 use cfs_pmem::{Power, Region, set_word};
 use cfs_vec::FixedVec;
 
-/// A slot whose request is persisted whole, and whose gate may be open or closed in an image. A long write has its tails here, and
-/// the slot is its head.
+/// A slot whose request is persisted whole, and whose gate may be open or closed in an image. A
+/// long write has its tails here, and the slot is its head.
 #[derive(Drop)]
 pub struct Doubt<R: Region> {
     pub(crate) region: R,
@@ -44,15 +44,18 @@ impl<R: Region + Drop> Doubt<R> {
         self.grant
     }
 
-    /// Closes the gate and persists it, in two writing steps, and gives all slots of the request, the head first. Refuses for a device
-    /// fault alone, and then the gate is still in doubt.
+    /// Closes the gate and persists it, in two writing steps, and gives all slots of the request,
+    /// the head first. Refuses for a device fault alone, and then the gate is still in doubt.
     pub fn settle<P: Power>(self, power: &mut P) -> Result<FixedVec<Slot<R>, QUEUE_SLOTS>, Doubt<R>>
         ensures set { SetsWord R.obeys_power GATE 0 result
-            (P.asked power.old) (R.seen (of_doubt self)) (P.asked power.new) (R.seen (head_of (of_doubt self) (after_settle result))) }
-        ensures slots { after_settle result ≡ head_of (of_doubt self) (after_settle result) ∷ tails_of_doubt self }
-        ensures grant { grant_of (words_of (R.seen (head_of (of_doubt self) (after_settle result)))) ≡
-            grant_of (words_of (R.seen (of_doubt self))) }
-        ensures cause { HasCause (R.faults (of_doubt self)) (R.faults (head_of (of_doubt self) (after_settle result))) result }
+            (P.asked power.old) (R.seen (of_doubt self)) (P.asked power.new)
+            (R.seen (head_of (of_doubt self) (after_settle result))) }
+        ensures slots { after_settle result ≡ head_of (of_doubt self) (after_settle result) ∷
+            tails_of_doubt self }
+        ensures grant { grant_of (words_of (R.seen (head_of (of_doubt self) (after_settle result))))
+            ≡ grant_of (words_of (R.seen (of_doubt self))) }
+        ensures cause { HasCause (R.faults (of_doubt self))
+            (R.faults (head_of (of_doubt self) (after_settle result))) result }
     {
         let Doubt {
             mut region,

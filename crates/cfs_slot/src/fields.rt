@@ -11,7 +11,8 @@ pub struct Found {
     pub ino: u64,
     /// The offset of a write, in bytes, or the new length of a truncate.
     pub offset: u64,
-    /// 1 of a write that one slot holds, 2 of a truncate, 3 of the head of a longer write, and 4 of its tails.
+    /// 1 of a write that one slot holds, 2 of a truncate, 3 of the head of a longer write, and 4 of
+    /// its tails.
     pub kind: u64,
     /// How many bytes the payload has, of a head those of the whole write.
     pub count: u64,

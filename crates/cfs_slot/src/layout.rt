@@ -15,8 +15,8 @@ pub const INO: u32 = 2;
 /// The offset of a write, in bytes, or the new length of a truncate.
 pub const OFFSET: u32 = 3;
 
-/// The kind, times 65,536, and the length of the payload in bytes. Of the head of a long write the length of
-/// the whole write less one, and from `TAILS_UNIT` on a bit for the number of each tail.
+/// The kind, times 65,536, and the length of the payload in bytes. Of the head of a long write the
+/// length of the whole write less one, and from `TAILS_UNIT` on a bit for the number of each tail.
 pub const KIND: u32 = 4;
 
 /// The number of the grant under which the request came.
@@ -31,8 +31,8 @@ pub const WRITE: u64 = 1;
 /// The kind of a truncate, which has no payload.
 pub const TRUNCATE: u64 = 2;
 
-/// The kind of the head of a long write, which has 4097 to 65,536 bytes: the first 4096 stand in the head, and the
-/// others in its tails.
+/// The kind of the head of a long write, which has 4097 to 65,536 bytes: the first 4096 stand in
+/// the head, and the others in its tails.
 pub const LONG_WRITE: u64 = 3;
 
 /// The kind of a tail, whose payload has 1 to 4096 bytes.

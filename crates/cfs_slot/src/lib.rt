@@ -1,9 +1,10 @@
 //! Slots: a request is staged behind a closed gate, and opened whole by one word.
 //!
-//! A slot is one region. Its type says how far its request has come: `Slot` is closed, `Staged` holds a request that is persisted
-//! whole behind the closed gate, `Live` is open, and of a `Doubt` nobody knows whether a crash leaves it open. A write of more than
-//! 4096 bytes takes several slots: `Part`s, its tails, are staged first, and then the head, which has them from then on and is alone
-//! in having a gate. Every call writes the slot's own region alone and takes no memory.
+//! A slot is one region. Its type says how far its request has come: `Slot` is closed, `Staged`
+//! holds a request that is persisted whole behind the closed gate, `Live` is open, and of a `Doubt`
+//! nobody knows whether a crash leaves it open. A write of more than 4096 bytes takes several
+//! slots: `Part`s, its tails, are staged first, and then the head, which has them from then on and
+//! is alone in having a gate. Every call writes the slot's own region alone and takes no memory.
 #![tactic(auto)]
 
 mod doubt;

@@ -13,8 +13,8 @@ use crate::staged::Staged;
 use cfs_file::Request;
 use cfs_pmem::{Meter, Region};
 
-/// As `Slot::stage`, over a meter: whatever stop and plans are set, what it answers and which words it
-/// leaves is a function of all that the meter was asked and told before.
+/// As `Slot::stage`, over a meter: whatever stop and plans are set, what it answers and which words
+/// it leaves is a function of all that the meter was asked and told before.
 pub fn stage_metered<R: Region + Drop>(
     slot: Slot<R>,
     meter: &mut Meter,
@@ -32,9 +32,9 @@ pub fn stage_metered<R: Region + Drop>(
     slot.stage(meter, ino, request, grant)
 }
 
-/// As `Slot::stage`, with a stop that is set first, at the `n`th writing step. Where the stage has so
-/// many steps, it is refused, the words before that step are written, and the power is off; else all
-/// is staged, and the stop is nearer by its steps.
+/// As `Slot::stage`, with a stop that is set first, at the `n`th writing step. Where the stage has
+/// so many steps, it is refused, the words before that step are written, and the power is off; else
+/// all is staged, and the stop is nearer by its steps.
 pub fn stage_with_stop<R: Region + Drop>(
     slot: Slot<R>,
     meter: &mut Meter,

@@ -6,7 +6,8 @@ ghost use Rattle.cfs_slot.specs.Words.{IsClosed};
 use crate::slot::Slot;
 use cfs_pmem::Region;
 
-/// A tail of a long write, which is persisted whole. Its gate is closed in every image, and stays so.
+/// A tail of a long write, which is persisted whole. Its gate is closed in every image, and stays
+/// so.
 #[derive(Drop)]
 pub struct Part<R: Region> {
     pub(crate) region: R,

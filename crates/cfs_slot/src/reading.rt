@@ -32,7 +32,8 @@ fn put_word(area: &mut [u8], k: usize, word: u64)
     area[WORD * k..WORD * k + WORD].copy_from_slice(&word.to_le_bytes());
 }
 
-/// Reads the bytes of a slot's payload from `from` on that `out` has room for: each word that holds one of them, once.
+/// Reads the bytes of a slot's payload from `from` on that `out` has room for: each word that holds
+/// one of them, once.
 fn read_area<R: Region, P: Power>(
     region: &mut R,
     power: &mut P,
@@ -41,11 +42,14 @@ fn read_area<R: Region, P: Power>(
 ) -> Result<(), DeviceFault>
     requires size { length (words_of (R.seen region.old)) ≡ 518 }
     requires within { from + length out.old ≤ 4096 }
-    ensures bytes { OnOk result (out.new ≡ take (length out.old) (drop from (area_of (words_of (R.seen region.old))))) }
+    ensures bytes { OnOk result
+        (out.new ≡ take (length out.old) (drop from (area_of (words_of (R.seen region.old))))) }
     ensures seen { R.seen region.new ≡ R.seen region.old }
     ensures does { IsTrue R.obeys_power →
-        DoesReads (area_reads (R.seen region.old).device from (from + length out.old)) result (P.asked power.old) (P.asked power.new) }
-    ensures asks { AsksOnly (devices_of (R.seen region.old)) (P.asked power.old) (P.asked power.new) }
+        DoesReads (area_reads (R.seen region.old).device from (from + length out.old)) result
+        (P.asked power.old) (P.asked power.new) }
+    ensures asks { AsksOnly (devices_of (R.seen region.old))
+        (P.asked power.old) (P.asked power.new) }
     ensures cause { HasCause (R.faults region.old) (R.faults region.new) result }
 {
     let mut area = [0; AREA];
@@ -69,7 +73,8 @@ fn read_tail<R: Region + Drop, P: Power>(
     requires tail { tail < length (of_parts tails.old) }
     requires within { from + length out.old ≤ 4096 }
     ensures { ReadsSlot R.seen R.faults R.obeys_power tail from result
-        (P.asked power.old) (of_parts tails.old) out.old (P.asked power.new) (of_parts tails.new) out.new }
+        (P.asked power.old) (of_parts tails.old) out.old (P.asked power.new) (of_parts tails.new)
+        out.new }
 {
     match &mut tails.cells.as_mut_slice()[tail] {
         Some(part) => read_area(&mut part.region, power, from, out),
@@ -92,7 +97,8 @@ impl<R: Region + Drop> Live<R> {
         requires slot { slot < length (regions_of self.old) }
         requires within { from + length out.old ≤ 4096 }
         ensures reads { ReadsSlot R.seen R.faults R.obeys_power slot from result
-            (P.asked power.old) (regions_of self.old) out.old (P.asked power.new) (regions_of self.new) out.new }
+            (P.asked power.old) (regions_of self.old) out.old (P.asked power.new)
+            (regions_of self.new) out.new }
         ensures place { place_of self.new ≡ place_of self.old }
     {
         match slot.checked_sub(1) {
@@ -101,9 +107,9 @@ impl<R: Region + Drop> Live<R> {
         }
     }
 
-    /// Reads the payload's bytes from `from` on that `out` has room for, which are at most 4096: each word that holds one of them,
-    /// once, in order, those of the head first. Makes no writing step. Refuses for a device fault alone; `out` may then hold any
-    /// bytes.
+    /// Reads the payload's bytes from `from` on that `out` has room for, which are at most 4096:
+    /// each word that holds one of them, once, in order, those of the head first. Makes no writing
+    /// step. Refuses for a device fault alone; `out` may then hold any bytes.
     pub fn read_payload<P: Power>(
         &mut self,
         power: &mut P,
@@ -113,14 +119,18 @@ impl<R: Region + Drop> Live<R> {
         requires some { 0 < length out.old }
         requires few { length out.old ≤ 4096 }
         requires within { from + length out.old ≤ length (payload_in R.seen self.old) }
-        ensures bytes { OnOk result (out.new ≡ take (length out.old) (drop from (payload_in R.seen self.old))) }
+        ensures bytes { OnOk result
+            (out.new ≡ take (length out.old) (drop from (payload_in R.seen self.old))) }
         ensures seen { map R.seen (regions_of self.new) ≡ map R.seen (regions_of self.old) }
         ensures place { place_of self.new ≡ place_of self.old }
         ensures does { IsTrue R.obeys_power →
-            DoesReads (payload_reads (devices_in R.seen (regions_of self.old)) from (length out.old)) result
+            DoesReads
+            (payload_reads (devices_in R.seen (regions_of self.old)) from (length out.old)) result
             (P.asked power.old) (P.asked power.new) }
-        ensures asks { AsksOnly (flat_map devices_of (map R.seen (regions_of self.old))) (P.asked power.old) (P.asked power.new) }
-        ensures cause { HaveCause (map R.faults (regions_of self.old)) (map R.faults (regions_of self.new)) result }
+        ensures asks { AsksOnly (flat_map devices_of (map R.seen (regions_of self.old)))
+            (P.asked power.old) (P.asked power.new) }
+        ensures cause { HaveCause (map R.faults (regions_of self.old))
+            (map R.faults (regions_of self.new)) result }
     {
         let len = out.len();
         let at = from % AREA;

@@ -44,9 +44,11 @@ impl<R: Region + Drop> Slot<R> {
         self.region.device()
     }
 
-    /// Writes a request and persists it, behind the closed gate: a write or an append of 1 to 4096 bytes, or a truncate. An append
-    /// is staged as a write at offset 0, and gets its offset by `set_offset`. Without a fault it makes a writing step for each of
-    /// words 1 to 5 and of the payload's words, and a persist. Refuses for a device fault alone, and gives the slot back.
+    /// Writes a request and persists it, behind the closed gate: a write or an append of 1 to 4096
+    /// bytes, or a truncate. An append is staged as a write at offset 0, and gets its offset by
+    /// `set_offset`. Without a fault it makes a writing step for each of words 1 to 5 and of the
+    /// payload's words, and a persist. Refuses for a device fault alone, and gives the slot back.
+    #[inline(always)]
     pub fn stage<P: Power>(
         self,
         power: &mut P,
@@ -55,10 +57,12 @@ impl<R: Region + Drop> Slot<R> {
         grant: u64,
     ) -> Result<Staged<R>, Slot<R>>
         requires { IsStageable request.now }
-        ensures staged { IfOk result (λ staged. IsStaged ino request.now grant (words_of (R.seen (of_staged staged)))) }
+        ensures staged { IfOk result
+            (λ staged. IsStaged ino request.now grant (words_of (R.seen (of_staged staged)))) }
         ensures tails { IfOk result (λ staged. tails_of_staged staged ≡ []) }
         ensures writes { WritesSlot R.obeys_power (stage_ops ino request.now grant) result
-            (P.asked power.old) (R.seen (of_slot self)) (P.asked power.new) (R.seen (after_stage result)) }
+            (P.asked power.old) (R.seen (of_slot self)) (P.asked power.new)
+            (R.seen (after_stage result)) }
         ensures cause { HasCause (R.faults (of_slot self)) (R.faults (after_stage result)) result }
     {
         let Slot { mut region } = self;
@@ -79,8 +83,9 @@ impl<R: Region + Drop> Slot<R> {
         }
     }
 
-    /// Writes 1 to 4096 bytes of a long write and persists them, as a tail. Without a fault it makes the steps of `stage` for as many
-    /// bytes. Refuses for a device fault alone, and gives the slot back.
+    /// Writes 1 to 4096 bytes of a long write and persists them, as a tail. Without a fault it
+    /// makes the steps of `stage` for as many bytes. Refuses for a device fault alone, and gives
+    /// the slot back.
     pub fn stage_part<P: Power>(
         self,
         power: &mut P,
@@ -90,9 +95,11 @@ impl<R: Region + Drop> Slot<R> {
     ) -> Result<Part<R>, Slot<R>>
         requires some { 0 < length part.now }
         requires few { length part.now ≤ 4096 }
-        ensures staged { IfOk result (λ tail. IsPart ino part.now grant (words_of (R.seen (of_part tail)))) }
+        ensures staged { IfOk result
+            (λ tail. IsPart ino part.now grant (words_of (R.seen (of_part tail)))) }
         ensures writes { WritesSlot R.obeys_power (part_ops ino part.now grant) result
-            (P.asked power.old) (R.seen (of_slot self)) (P.asked power.new) (R.seen (after_part result)) }
+            (P.asked power.old) (R.seen (of_slot self)) (P.asked power.new)
+            (R.seen (after_part result)) }
         ensures cause { HasCause (R.faults (of_slot self)) (R.faults (after_part result)) result }
     {
         let Slot { mut region } = self;
@@ -108,9 +115,10 @@ impl<R: Region + Drop> Slot<R> {
         }
     }
 
-    /// Writes the head of a long write, which has 4097 to 65,536 bytes, and persists it behind the closed gate. The tails hold the
-    /// request's bytes from 4096 on, and stand in slots of the same queue above this one, ascending. Without a fault it makes the
-    /// steps of `stage` for 4096 bytes. Refuses for a device fault alone, and gives the slot and the tails back.
+    /// Writes the head of a long write, which has 4097 to 65,536 bytes, and persists it behind the
+    /// closed gate. The tails hold the request's bytes from 4096 on, and stand in slots of the same
+    /// queue above this one, ascending. Without a fault it makes the steps of `stage` for 4096
+    /// bytes. Refuses for a device fault alone, and gives the slot and the tails back.
     pub fn stage_head<P: Power>(
         self,
         power: &mut P,
@@ -120,13 +128,18 @@ impl<R: Region + Drop> Slot<R> {
         tails: FixedVec<Part<R>, MOST_TAILS>,
     ) -> Result<Staged<R>, (Slot<R>, FixedVec<Part<R>, MOST_TAILS>)>
         requires long { IsLong request.now }
-        requires parts { AreParts ino grant (drop 4096 (staged_payload request.now)) (words_in R.seen (of_parts tails)) }
-        requires above { AreAbove (R.seen (of_slot self)).device (devices_in R.seen (of_parts tails)) }
-        ensures staged { IfOk result (λ staged. IsStagedLong ino request.now grant (slot_numbers R.seen (of_parts tails))
+        requires parts { AreParts ino grant (drop 4096 (staged_payload request.now))
+            (words_in R.seen (of_parts tails)) }
+        requires above { AreAbove (R.seen (of_slot self)).device
+            (devices_in R.seen (of_parts tails)) }
+        ensures staged { IfOk result
+            (λ staged. IsStagedLong ino request.now grant (slot_numbers R.seen (of_parts tails))
             (words_of (R.seen (of_staged staged))) (words_in R.seen (of_parts tails))) }
         ensures tails { tails_after_head result ≡ of_parts tails }
-        ensures writes { WritesSlot R.obeys_power (head_ops ino request.now grant (slot_numbers R.seen (of_parts tails))) result
-            (P.asked power.old) (R.seen (of_slot self)) (P.asked power.new) (R.seen (after_head result)) }
+        ensures writes { WritesSlot R.obeys_power
+            (head_ops ino request.now grant (slot_numbers R.seen (of_parts tails))) result
+            (P.asked power.old) (R.seen (of_slot self)) (P.asked power.new)
+            (R.seen (after_head result)) }
         ensures cause { HasCause (R.faults (of_slot self)) (R.faults (after_head result)) result }
     {
         let Slot { mut region } = self;

@@ -32,6 +32,7 @@ pub(crate) fn set_of_tails<R: Region + Drop>(tails: &FixedVec<Part<R>, MOST_TAIL
 }
 
 /// The slots of a head and its tails, in order.
+#[inline(always)]
 pub(crate) fn all_slots<R: Region + Drop>(
     head: Slot<R>,
     mut tails: FixedVec<Part<R>, MOST_TAILS>,

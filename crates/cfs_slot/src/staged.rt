@@ -15,8 +15,8 @@ use crate::slots::{all_regions, all_slots};
 use cfs_pmem::{DeviceFault, Power, Region, set_word};
 use cfs_vec::FixedVec;
 
-/// A slot whose request is persisted whole behind the closed gate: all but the offset of a `set_offset` that was refused. A long
-/// write has its tails here, and the slot is its head.
+/// A slot whose request is persisted whole behind the closed gate: all but the offset of a
+/// `set_offset` that was refused. A long write has its tails here, and the slot is its head.
 #[derive(Drop)]
 pub struct Staged<R: Region> {
     pub(crate) region: R,
@@ -46,37 +46,52 @@ impl<R: Region + Drop> Staged<R> {
         self.grant
     }
 
-    /// Sets the offset and persists it, in two writing steps. Refuses for a device fault alone. After that the offset is unsure, so
-    /// that an image may have the old or the new one, until a `set_offset` succeeds.
+    /// Sets the offset and persists it, in two writing steps. Refuses for a device fault alone.
+    /// After that the offset is unsure, so that an image may have the old or the new one, until a
+    /// `set_offset` succeeds.
     pub fn set_offset<P: Power>(&mut self, power: &mut P, offset: u64) -> Result<(), DeviceFault>
         ensures set { SetsWord R.obeys_power OFFSET offset result
-            (P.asked power.old) (R.seen (of_staged self.old)) (P.asked power.new) (R.seen (of_staged self.new)) }
+            (P.asked power.old) (R.seen (of_staged self.old)) (P.asked power.new)
+            (R.seen (of_staged self.new)) }
         ensures request { OnOk result (
-            request_of (words_of (R.seen (of_staged self.new))) (words_in R.seen (tails_of_staged self.new)) ≡
-            with_offset offset (request_of (words_of (R.seen (of_staged self.old))) (words_in R.seen (tails_of_staged self.old)))) }
+            request_of (words_of (R.seen (of_staged self.new)))
+            (words_in R.seen (tails_of_staged self.new)) ≡
+            with_offset offset (request_of (words_of (R.seen (of_staged self.old)))
+            (words_in R.seen (tails_of_staged self.old)))) }
         ensures tails { tails_of_staged self.new ≡ tails_of_staged self.old }
-        ensures grant { grant_of (words_of (R.seen (of_staged self.new))) ≡ grant_of (words_of (R.seen (of_staged self.old))) }
-        ensures cause { HasCause (R.faults (of_staged self.old)) (R.faults (of_staged self.new)) result }
+        ensures grant { grant_of (words_of (R.seen (of_staged self.new))) ≡
+            grant_of (words_of (R.seen (of_staged self.old))) }
+        ensures cause { HasCause (R.faults (of_staged self.old)) (R.faults (of_staged self.new))
+            result }
     {
         set_word(&mut self.region, power, OFFSET, offset)?;
         Ok(())
     }
 
-    /// Opens the gate with the entry's place and persists it, in two writing steps: so the request is durable whole, or not at all.
-    /// Refuses for a device fault alone, and then nobody knows whether the gate is open.
+    /// Opens the gate with the entry's place and persists it, in two writing steps: so the request
+    /// is durable whole, or not at all. Refuses for a device fault alone, and then nobody knows
+    /// whether the gate is open.
+    #[inline(always)]
     pub fn open_gate<P: Power>(self, power: &mut P, place: u64) -> Result<Live<R>, Doubt<R>>
         requires place { 0 < place }
         // Its offset is not unsure.
         requires sure { IsSure (R.seen (of_staged self)) }
         ensures set { SetsWord R.obeys_power GATE place result
-            (P.asked power.old) (R.seen (of_staged self)) (P.asked power.new) (R.seen (after_open result)) }
+            (P.asked power.old) (R.seen (of_staged self)) (P.asked power.new)
+            (R.seen (after_open result)) }
         ensures tails { tails_after_open result ≡ tails_of_staged self }
         ensures place { IfOk result (λ live. place_of live ≡ place) }
         // The slot is a live entry of its file, at this place and with the request that was staged.
         ensures entry { IfOk result (λ live.
-            live_entry (ino_of (words_of (R.seen (of_staged self)))) (words_of (R.seen (of_live live))) (words_in R.seen (tails_of_staged self))
-            ≡ Some (place, request_of (words_of (R.seen (of_staged self))) (words_in R.seen (tails_of_staged self)))) }
-        ensures grant { grant_of (words_of (R.seen (after_open result))) ≡ grant_of (words_of (R.seen (of_staged self))) }
+            live_entry (ino_of (words_of (R.seen (of_staged self))))
+            (words_of (R.seen (of_live live))) (words_in R.seen (tails_of_staged self))
+            ≡ Some (
+              place,
+              request_of (words_of (R.seen (of_staged self)))
+                  (words_in R.seen (tails_of_staged self)),
+            )) }
+        ensures grant { grant_of (words_of (R.seen (after_open result))) ≡
+            grant_of (words_of (R.seen (of_staged self))) }
         ensures cause { HasCause (R.faults (of_staged self)) (R.faults (after_open result)) result }
     {
         let Staged {

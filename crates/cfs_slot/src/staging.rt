@@ -82,7 +82,8 @@ pub(crate) struct Fields {
     pub(crate) grant: u64,
 }
 
-/// The last bytes of a payload as a word, the first one lowest; zero bytes stand for those that are missing.
+/// The last bytes of a payload as a word, the first one lowest; zero bytes stand for those that are
+/// missing.
 #[inline]
 fn last_word(bytes: &[u8]) -> u64
     requires some { 0 < length bytes.now }
@@ -93,7 +94,7 @@ fn last_word(bytes: &[u8]) -> u64
 }
 
 /// Writes the payload's words: a writing step a word, up to one that fails.
-#[inline]
+#[inline(always)]
 fn write_payload<R: Region, P: Power>(
     region: &mut R,
     power: &mut P,
@@ -101,7 +102,8 @@ fn write_payload<R: Region, P: Power>(
 ) -> Result<(), DeviceFault>
     requires size { length (words_of (R.seen region.old)) ≡ 518 }
     requires few { length payload.now ≤ 4096 }
-    ensures written { WritesWords R.obeys_power 6 (payload_words (words_for (length payload.now)) payload.now) result
+    ensures written { WritesWords R.obeys_power 6
+        (payload_words (words_for (length payload.now)) payload.now) result
         (P.asked power.old) (R.seen region.old) (P.asked power.new) (R.seen region.new) }
     ensures cause { HasCause (R.faults region.old) (R.faults region.new) result }
 {
@@ -118,7 +120,9 @@ fn write_payload<R: Region, P: Power>(
     Ok(())
 }
 
-/// Writes words 1 to 5 and the payload of a slot whose gate is closed in every image, and persists them.
+/// Writes words 1 to 5 and the payload of a slot whose gate is closed in every image, and persists
+/// them.
+#[inline(always)]
 pub(crate) fn write_slot<R: Region, P: Power>(
     region: &mut R,
     power: &mut P,
@@ -128,8 +132,11 @@ pub(crate) fn write_slot<R: Region, P: Power>(
     requires size { length (words_of (R.seen region.old)) ≡ 518 }
     requires few { length payload.now ≤ 4096 }
     requires closed { AllImages (R.seen region.old) IsClosed }
-    ensures holds { OnOk result (HoldsFields fields.ino fields.offset fields.kind fields.grant payload.now (words_of (R.seen region.new))) }
-    ensures writes { WritesSlot R.obeys_power (slot_ops fields.ino fields.offset fields.kind fields.grant payload.now) result
+    ensures holds { OnOk result
+        (HoldsFields fields.ino fields.offset fields.kind fields.grant payload.now
+        (words_of (R.seen region.new))) }
+    ensures writes { WritesSlot R.obeys_power
+        (slot_ops fields.ino fields.offset fields.kind fields.grant payload.now) result
         (P.asked power.old) (R.seen region.old) (P.asked power.new) (R.seen region.new) }
     ensures cause { HasCause (R.faults region.old) (R.faults region.new) result }
 {

@@ -2,7 +2,7 @@ ghost use Rattle.std.specs.Prelude.{IfOk};
 ghost use Rattle.cfs_pmem.specs.Images.{IsSure};
 ghost use Rattle.cfs_slot.specs.Regions.{of_staged};
 
-use crate::{Doubt, Found, Live, Slot, Staged, found, is_stageable};
+use crate::{Doubt, Found, Live, Slot, Staged, found, is_stageable, layout};
 use cfs_file::{Bytes, Request};
 use cfs_pmem::{MemRegion, Meter, Pick, Region};
 use cfs_vec::FixedVec;
@@ -167,13 +167,19 @@ fn leaves(mut region: MemRegion, k: u64, words: &[u64]) -> bool {
     begins_with(&region, words)
 }
 
+/// The same of a slot's first seven words.
+fn words_left(region: MemRegion, k: u64, words: [u64; 7]) -> bool {
+    leaves(region, k, &words)
+}
+
 const EMPTY: [u64; 7] = [0, 0, 0, 0, 0, 0, 0];
 
 const STAGED: [u64; 7] = [0, 0, 2, 5, 65_541, 9, 0x6f_6c6c_6568];
 
 const OPEN: [u64; 7] = [7, 0, 2, 5, 65_541, 9, 0x6f_6c6c_6568];
 
-// The stage makes seven steps and the gate two. What a crash leaves that keeps what was durable, and one that keeps what was present.
+// The stage makes seven steps and the gate two. What a crash leaves that keeps what was durable,
+// and one that keeps what was present.
 #[test]
 fn a_stop_leaves_the_gate_closed_or_the_request_whole(rt: HostRuntime) -> Result<(), Fail> {
     let hello = write(rt.alloc(), 5, b"hello")?;
@@ -192,7 +198,7 @@ fn a_stop_leaves_the_gate_closed_or_the_request_whole(rt: HostRuntime) -> Result
         for (k, words) in [(0, durable), (1, present)] {
             let mut meter = Meter::calm(rt.alloc());
             let region = stopped(empty(rt.alloc())?, &mut meter, &hello, n).ok_or("no slot")?;
-            assert!(rt; leaves(region, k, &words), "stop {n}, pick {k}");
+            assert!(rt; words_left(region, k, words), "stop {n}, pick {k}");
         }
     }
     Ok(())
@@ -207,7 +213,8 @@ enum Call {
     Settle,
 }
 
-/// A slot after this call, with a stop at its nth writing step. A doubt is one whose gate was written and not persisted.
+/// A slot after this call, with a stop at its nth writing step. A doubt is one whose gate was
+/// written and not persisted.
 fn refused(
     slot: Slot<MemRegion>,
     meter: &mut Meter,
@@ -278,8 +285,8 @@ fn fields_left(region: MemRegion, k: u64, fields: [u64; 4]) -> bool {
     leaves(region, k, &fields)
 }
 
-// What is left of the four fields, where a crash keeps what was durable and where it keeps what was present. Each call makes
-// two steps: the word and the persist.
+// What is left of the four fields, where a crash keeps what was durable and where it keeps what was
+// present. Each call makes two steps: the word and the persist.
 #[test]
 fn a_refused_call_leaves_its_word_old_or_new(rt: HostRuntime) -> Result<(), Fail> {
     let hello = write(rt.alloc(), 5, b"hello")?;
@@ -373,7 +380,8 @@ fn recovery_finds_the_fields(rt: HostRuntime) -> Result<(), Fail> {
     Ok(())
 }
 
-/// The first words of a slot in which these bytes were staged as a tail, with a stop at the nth step.
+/// The first words of a slot in which these bytes were staged as a tail, with a stop at the nth
+/// step.
 fn part_staged(
     slot: Slot<MemRegion>,
     meter: &mut Meter,
@@ -392,7 +400,8 @@ fn part_staged(
 
 const TAIL: [u64; 7] = [0, 0, 2, 0, 262_149, 9, 0x6f_6c6c_6568];
 
-/// Whether a tail of five bytes, staged with a stop at the nth step, is left with these first words by a crash of this pick.
+/// Whether a tail of five bytes, staged with a stop at the nth step, is left with these first words
+/// by a crash of this pick.
 fn tail_leaves(alloc: Global, n: u64, k: u64, words: &[u64]) -> Result<bool, Fail> {
     let mut meter = Meter::calm(alloc);
     let region = part_staged(empty(alloc)?, &mut meter, n, b"hello");
@@ -409,4 +418,31 @@ fn a_stop_leaves_a_tail_in_part(rt: HostRuntime) -> Result<(), Fail> {
     assert!(rt; tail_leaves(rt.alloc(), 7, 1, &TAIL)?);
     assert!(rt; tail_leaves(rt.alloc(), 8, 0, &TAIL)?);
     Ok(())
+}
+
+#[test]
+fn the_constants_are_these(rt: HostRuntime) {
+    for (place, expected) in [
+        (layout::GATE, 0),
+        (layout::MARK, 1),
+        (layout::INO, 2),
+        (layout::OFFSET, 3),
+        (layout::KIND, 4),
+        (layout::GRANT, 5),
+        (layout::PAYLOAD, 6),
+        (layout::SLOT_WORDS, 518),
+        (layout::FIRST_SLOT, 323),
+    ] {
+        assert_eq!(rt; place, expected);
+    }
+    for (number, expected) in [
+        (layout::WRITE, 1),
+        (layout::TRUNCATE, 2),
+        (layout::LONG_WRITE, 3),
+        (layout::TAIL, 4),
+        (layout::TAILS_UNIT, 4_294_967_296),
+    ] {
+        assert_eq!(rt; number, expected);
+    }
+    assert_eq!(rt; (layout::MOST_TAILS, layout::QUEUE_SLOTS), (15, 16));
 }

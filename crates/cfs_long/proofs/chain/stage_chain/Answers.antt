@@ -1,11 +1,19 @@
-use Rattle.std.proofs.Common.{◌+◌, ◌≡◌, ◌∙◌, Bool, true, false, List, [], ◌∷◌, ◌++◌, length, drop, is_ok, map, reverse, refl, sym, ap, subst, arith, rules}
+use Rattle.std.proofs.Common.{ℕ, Result, Ok, Err, IfOk, ◌+◌, ◌≡◌, ◌∙◌, Bool, true, false, List, [], ◌∷◌, ◌++◌, length, drop, is_ok, map, reverse, refl, sym, ap, subst, arith, rules}
 use Rattle.std.proofs.lemmas.List.{length-map, length-reverse}
 use Rattle.std.specs.Option.{option_to_list}
 use Rattle.cfs_vec.specs.Items.{items_of}
+use Rattle.cfs_file.specs.declared.request.Request.{Request}
+use Rattle.cfs_pmem.specs.Images.{words_of, IsSure}
+use Rattle.cfs_vec.specs.declared.fixed_vec.FixedVec.{FixedVec}
+use Rattle.cfs_slot.specs.declared.part.Part.{Part}
 use Rattle.cfs_slot.specs.declared.slot.Slot.{Slot}
-use Rattle.cfs_slot.specs.Regions.{devices_in, of_slots, slot_numbers}
-use Rattle.cfs_slot.specs.Staging.{IsLong, IsStageable, slots_for, staged_payload}
+use Rattle.cfs_slot.specs.declared.staged.Staged.{Staged}
+use Rattle.cfs_slot.specs.Regions.{devices_in, of_slots, of_staged, slot_numbers, tails_of_staged, words_in}
+use Rattle.cfs_slot.specs.Staging.{IsLong, IsStageable, slots_for, staged_payload, staged_request}
 use Rattle.cfs_slot.specs.Tails.{AreAbove}
+use Rattle.cfs_slot.specs.Words.{request_of}
+use Rattle.cfs_long.specs.Whole.{StandsWhole}
+use Rattle.cfs_long.proofs.WholeLemmas.{AllSure, stands_whole}
 use Rattle.cfs_slot.proofs.StagedLemmas.{payload_most}
 use Rattle.cfs_long.specs.After.{after_chain, from_last}
 use Rattle.cfs_long.specs.Chain.{AreChain, StagesChain}
@@ -20,6 +28,20 @@ use Rattle.cfs_long.proofs.chain.stage_chain.Goals as goal
 slots_closed : (g : Over) (slots : List (Slot g.row.R.Denot g.R.Region)) → AllClosed g.R.Region.seen (map (λ (s : Slot g.row.R.Denot g.R.Region). s.region) slots)
 slots_closed g [] = tt
 slots_closed g (slot ∷ slots) = (slot.closed, slots_closed g slots)
+
+-- the tails of a staged request are sure
+parts_sure : (g : Over) (parts : List (Part g.row.R.Denot g.R.Region)) → AllSure g.R.Region.seen (map (λ (p : Part g.row.R.Denot g.R.Region). p.region) parts)
+parts_sure g [] = tt
+parts_sure g (part ∷ parts) = (part.sure, parts_sure g parts)
+
+stands_of : (g : Over) {N : ℕ} (request : Request) (result : Result (Staged g.row.R.Denot g.R.Region) (FixedVec (Slot g.row.R.Denot g.R.Region) N))
+    → IfOk result (λ staged. request_of (words_of (g.R.Region.seen (of_staged staged))) (words_in g.R.Region.seen (tails_of_staged staged)) ≡ staged_request request)
+    → IfOk result (λ staged. IsSure (g.R.Region.seen (of_staged staged)))
+    → IfOk result (λ staged. StandsWhole (staged_request request) (map (λ r. g.R.Region.seen r) (of_staged staged ∷ tails_of_staged staged)))
+stands_of g request (Ok staged) whole sure =
+    subst (λ request. StandsWhole request (map (λ r. g.R.Region.seen r) (of_staged staged ∷ tails_of_staged staged))) whole
+    (stands_whole g.R.Region.seen (of_staged staged) (tails_of_staged staged) (sure, parts_sure g (items_of staged.tails)))
+stands_of g request (Err slots) whole sure = tt
 
 nothing : {A : Type 0} (xs : List A) → length xs ≡ 0 → xs ≡ []
 nothing [] e = refl
@@ -75,6 +97,8 @@ returns-then-is_long g c =
       long = λ l. c.stage_long.ensures.staged;
       whole = whole_long g.R.Region.seen c.args.ino c.args.grant c.args.request.now c.stage_long.result c.stage_long.ensures.staged;
       sure = c.stage_long.ensures.sure;
+      stands = stands_of g c.args.request.now c.stage_long.result
+          (whole_long g.R.Region.seen c.args.ino c.args.grant c.args.request.now c.stage_long.result c.stage_long.ensures.staged) c.stage_long.ensures.sure;
       slots = chain_same chain;
       moments = λ distinct. chain_moments (slots_closed g (items_of c.args.slots)) distinct chain;
       cause = cause_of c.stage_long.result chain;
@@ -102,6 +126,8 @@ returns-else-is_long g c =
       long = λ long. absurd (not_long long);
       whole = whole_short g.R.Region.seen c.args.ino c.args.grant c.args.request.now c.stage_short.result c.stage_short.ensures.staged c.stage_short.ensures.tails;
       sure = c.stage_short.ensures.sure;
+      stands = stands_of g c.args.request.now c.stage_short.result
+          (whole_short g.R.Region.seen c.args.ino c.args.grant c.args.request.now c.stage_short.result c.stage_short.ensures.staged c.stage_short.ensures.tails) c.stage_short.ensures.sure;
       slots = chain_same chain;
       moments = λ distinct. chain_moments (slots_closed g (items_of c.args.slots)) distinct chain;
       cause = cause_of c.stage_short.result chain;

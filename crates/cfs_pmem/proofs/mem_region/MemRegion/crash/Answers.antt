@@ -9,6 +9,7 @@ invariant_of-self c =
     rw c.of.ensures
     (backed_anew c.leave.new.durable.items c.leave.new.present.items c.none-self-inside.result c.leave.ensures.durable
     (search rules)
+    c.none-self-inside.ensures.ordered
     (omega (arith, c.leave.ensures.size, c.self.invariant.differ.size, c.self.invariant.small)))
 
 pub returns-clause-image : goal.returns-clause-image
