@@ -1,6 +1,6 @@
 ghost use Rattle.cfs_dir.specs.Change.{IsTellable};
 
-use crate::{AppendRefusal, Journal, PLACES};
+use crate::{AppendRefusal, GATE, Journal, PLACES, RECORD_WORDS};
 use cfs_dir::Change;
 use cfs_pmem::{MemRegion, Meter, Pick};
 use std::alloc::{AllocError, Global};
@@ -153,4 +153,9 @@ fn a_cut_makes_room(rt: HostRuntime) -> Result<(), Fail> {
     );
     assert_eq!(rt; journal.append(&mut meter, &removal(3)), Ok(4));
     Ok(())
+}
+
+#[test]
+fn bounds(rt: HostRuntime) {
+    assert_eq!(rt; (PLACES, RECORD_WORDS, GATE), (64, 16, 0));
 }
