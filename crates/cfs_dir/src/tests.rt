@@ -3,7 +3,8 @@ ghost use Rattle.std.specs.Option.{ForSome};
 ghost use Rattle.cfs_dir.specs.Namespace.{node_at};
 
 use crate::{
-    Change, Kind, Moved, Name, Node, Path, Posix, Tree, TreeRefusal, changes_are_told, node_words,
+    CHANGE_WORDS, Change, DEEPEST, INODE_END, Kind, LONGEST_COMPONENT, LONGEST_NAME, MOST_NAMES,
+    NODE_WORDS, Name, Node, Path, Posix, RECORDS, Tree, TreeRefusal, changes_are_told, node_words,
     nodes_are_told, tables_are_told,
 };
 use cfs_cred::Credential;
@@ -149,23 +150,35 @@ fn calls_in_order(rt: HostRuntime) -> Result<(), Fail> {
     Ok(())
 }
 
+/// Makes 255 directories under the root.
+fn fill(rt: &impl Abort, alloc: Global, tree: &mut Tree) -> Result<(), Fail> {
+    for number in 0..255 {
+        let line = format!(in alloc; "10 mkdir 755 /n{number} {}", number + 2)?;
+        run_line(rt, alloc, tree, line.as_str())?;
+    }
+    Ok(())
+}
+
+/// The record's number and the words of the node that keeps a record.
+fn kept_at(tree: &Tree, rec: u32) -> Option<(u32, [u64; NODE_WORDS])> {
+    let node = tree.node(rec)?;
+    Some((node.rec, node_words(node)))
+}
+
+/// Fills the table, and makes calls that want a record.
+fn run_full(rt: &impl Abort, alloc: Global, tree: &mut Tree) -> Result<(), Fail> {
+    fill(rt, alloc, tree)?;
+    run(rt, alloc, tree, CALLS_WITHOUT_RECORD)?;
+    let n7 = [257, 1, 1, 0o644, 10, 10, 2, 0x376e, 0, 0, 0, 0];
+    assert_eq!(rt; kept_at(tree, 8), Some((8, n7)));
+    assert!(rt; kept_at(tree, 256).is_none());
+    Ok(())
+}
+
 #[test]
 fn full_table(rt: HostRuntime) -> Result<(), Fail> {
     let mut tree = Tree::with_root(rt.alloc(), 0o755, 10, 10)?;
-    for number in 0..255 {
-        let line = format!(in rt.alloc(); "10 mkdir 755 /n{number} {}", number + 2)?;
-        run_line(&rt, rt.alloc(), &mut tree, line.as_str())?;
-    }
-    run(&rt, rt.alloc(), &mut tree, CALLS_WITHOUT_RECORD)?;
-    let node = tree.node(8).ok_or("no node")?;
-    assert_eq!(rt; (node.ino, node.parent, node.kind), (257, 1, Kind::File));
-    assert_eq!(rt;
-        (node.mode, node.uid, node.gid, node.rec),
-        (0o644, 10, 10, 8)
-    );
-    assert_eq!(rt; node.name.as_bytes(), b"n7".as_slice());
-    assert!(rt; tree.node(256).is_none());
-    Ok(())
+    run_full(&rt, rt.alloc(), &mut tree)
 }
 
 /// The tree of a root that has given out all inode numbers but the last.
@@ -192,22 +205,34 @@ fn last_inode_number(rt: HostRuntime) -> Result<(), Fail> {
     Ok(())
 }
 
-/// A file is made in two halves, and taken back.
+/// Makes a file in two halves and takes it back. Tells whether its path led to it in between.
+fn is_there_until_taken_back(
+    tree: &mut Tree,
+    credential: Credential,
+    path: &Path,
+) -> Result<bool, TreeRefusal> {
+    let rec = free_record(tree);
+    let node = tree.node_to_make(Kind::File, credential, path, 0o644, rec)?;
+    if tree.insert(&node).is_err() {
+        return Err(TreeRefusal::NoMemory);
+    }
+    let is_there = tree.lookup(credential, path) == Ok(node);
+    tree.take_back(&node);
+    Ok(is_there)
+}
+
+fn run_taken_back(rt: &impl Abort, alloc: Global, tree: &mut Tree) -> Result<(), Fail> {
+    let path = Path::parse(alloc, b"/a".as_slice())?;
+    let credential = Credential { uid: 10, gid: 10 };
+    assert!(rt; is_there_until_taken_back(tree, credential, &path)?);
+    assert_eq!(rt; tree.next(), 2);
+    run(rt, alloc, tree, "10 lookup 0 /a ENOENT")
+}
+
 #[test]
 fn file_taken_back(rt: HostRuntime) -> Result<(), Fail> {
     let mut tree = Tree::with_root(rt.alloc(), 0o755, 10, 10)?;
-    let path = Path::parse(rt.alloc(), b"/a".as_slice())?;
-    let credential = Credential { uid: 10, gid: 10 };
-    let rec = free_record(&tree);
-    let Ok(node) = tree.node_to_make(Kind::File, credential, &path, 0o644, rec) else {
-        return Err("refused")?;
-    };
-    tree.insert(&node)?;
-    assert!(rt; tree.lookup(credential, &path) == Ok(node));
-    tree.take_back(&node);
-    assert!(rt; tree.lookup(credential, &path) == Err(TreeRefusal::Refused(Posix::NotFound)));
-    assert_eq!(rt; tree.next(), 2);
-    Ok(())
+    run_taken_back(&rt, rt.alloc(), &mut tree)
 }
 
 /// Calls in order on a tree of user 10 that rename: a line has a user, the two paths, and what it
@@ -322,47 +347,64 @@ fn run_rename(rt: &impl Abort, alloc: Global, tree: &mut Tree, line: &str) -> Re
     Ok(())
 }
 
+/// Makes the calls before, the renames and the calls after.
+fn run_renames(rt: &impl Abort, alloc: Global, tree: &mut Tree) -> Result<(), Fail> {
+    run(rt, alloc, tree, BEFORE_RENAMES)?;
+    for line in RENAMES.lines() {
+        run_rename(rt, alloc, tree, line)?;
+    }
+    run(rt, alloc, tree, AFTER_RENAMES)
+}
+
 #[test]
 fn renames_in_order(rt: HostRuntime) -> Result<(), Fail> {
     let mut tree = Tree::with_root(rt.alloc(), 0o777, 10, 10)?;
-    run(&rt, rt.alloc(), &mut tree, BEFORE_RENAMES)?;
-    for line in RENAMES.lines() {
-        run_rename(&rt, rt.alloc(), &mut tree, line)?;
-    }
-    run(&rt, rt.alloc(), &mut tree, AFTER_RENAMES)?;
-    Ok(())
+    run_renames(&rt, rt.alloc(), &mut tree)
 }
 
-/// A rename in its two halves, and its change.
+/// Renames in two halves, and gives the words of the change. None where it is refused, where the
+/// old path leads nowhere in between, or the new one elsewhere than to the node afterwards.
+fn moved_in_halves(
+    tree: &mut Tree,
+    credential: Credential,
+    from: &Path,
+    to: &Path,
+) -> Option<[u64; CHANGE_WORDS]> {
+    let moved = tree.node_to_move(credential, from, to).ok()?;
+    if tree.lookup(credential, from).is_err() {
+        return None;
+    }
+    tree.move_node(&moved);
+    if tree.lookup(credential, to) != Ok(moved.node) {
+        return None;
+    }
+    Some(moved.change().words())
+}
+
+/// Renames `/a` to `/b` in two halves.
+fn a_moved_to_b(alloc: Global, tree: &mut Tree) -> Result<[u64; CHANGE_WORDS], Fail> {
+    let from = Path::parse(alloc, b"/a".as_slice())?;
+    let to = Path::parse(alloc, b"/b".as_slice())?;
+    let credential = Credential { uid: 10, gid: 10 };
+    let words = moved_in_halves(tree, credential, &from, &to);
+    Ok(words.ok_or("refused, or lost")?)
+}
+
+// The change tells the operation, the record, the node as it stands at `/b`, and the replaced
+// record plus 1.
+fn run_halves(rt: &impl Abort, alloc: Global, tree: &mut Tree) -> Result<(), Fail> {
+    run(rt, alloc, tree, "10 create 644 /a 2\n10 create 644 /b 3")?;
+    assert_eq!(rt;
+        a_moved_to_b(alloc, tree)?,
+        [3, 1, 2, 1, 1, 0o644, 10, 10, 1, 0x62, 0, 0, 0, 0, 3]
+    );
+    run(rt, alloc, tree, "10 lookup 0 /b 2\n10 lookup 0 /a ENOENT")
+}
+
 #[test]
 fn rename_in_halves(rt: HostRuntime) -> Result<(), Fail> {
     let mut tree = Tree::with_root(rt.alloc(), 0o755, 10, 10)?;
-    run(
-        &rt,
-        rt.alloc(),
-        &mut tree,
-        "10 create 644 /a 2\n10 create 644 /b 3",
-    )?;
-    let from = Path::parse(rt.alloc(), b"/a".as_slice())?;
-    let to = Path::parse(rt.alloc(), b"/b".as_slice())?;
-    let credential = Credential { uid: 10, gid: 10 };
-    let Ok(moved) = tree.node_to_move(credential, &from, &to) else {
-        return Err("refused")?;
-    };
-    assert!(rt; tree.lookup(credential, &from).is_ok());
-    let change = moved.change();
-    tree.move_node(&moved);
-    let Ok(node) = tree.lookup(credential, &to) else {
-        return Err("lost")?;
-    };
-    assert_eq!(rt; node.ino, 2);
-    let wanted = Change::Move {
-        node,
-        replaced: Some(2),
-    };
-    assert!(rt; change == wanted);
-    assert!(rt; tree.lookup(credential, &from) == Err(TreeRefusal::Refused(Posix::NotFound)));
-    Ok(())
+    run_halves(&rt, rt.alloc(), &mut tree)
 }
 
 /// Texts of paths, a line each.
@@ -521,4 +563,15 @@ fn posix_names_are_printed(rt: HostRuntime) -> Result<(), Fail> {
         assert_eq!(rt; text.as_str(), name);
     }
     Ok(())
+}
+
+#[test]
+fn bounds(rt: HostRuntime) {
+    assert_eq!(rt; (CHANGE_WORDS, NODE_WORDS), (15, 12));
+    assert_eq!(rt; (RECORDS, DEEPEST), (256, 16));
+    assert_eq!(rt;
+        (LONGEST_NAME, LONGEST_COMPONENT, MOST_NAMES),
+        (40, 200, 64)
+    );
+    assert_eq!(rt; INODE_END, 4_294_967_296);
 }
