@@ -19,11 +19,11 @@ fn outcome(alloc: Global, command: Command, text: &str) -> Result<Result<usize, 
     }
 }
 
-/// The text, read and printed again.
+/// The text, read, printed, read again and printed again.
 fn reprinted(alloc: Global, command: Command, text: &str) -> Result<Bytes, ScriptRefusal> {
     let script = match command {
-        Command::Play => read_play(alloc, text.as_bytes())?,
-        Command::Run => read_run(alloc, text.as_bytes())?,
+        Command::Play => print_and_read_play(alloc, &read_play(alloc, text.as_bytes())?)?,
+        Command::Run => print_and_read_run(alloc, &read_run(alloc, text.as_bytes())?)?,
     };
     Ok(print_script(alloc, &script)?)
 }
@@ -86,43 +86,52 @@ failread slot 0 0 4294967295
 failread block 0 1";
 
 /// Whether the line is outside with a word more, and with a word less where it has several.
-fn has_its_words(alloc: Global, line: &str) -> Result<bool, NoMemory> {
+fn has_its_words(alloc: Global, command: Command, line: &str) -> Result<bool, NoMemory> {
     let more = format!(in alloc; "caller 1 0 0\n{line} 0")?;
-    if outcome(alloc, Command::Play, more.as_str())? != Err(2) {
+    if outcome(alloc, command, more.as_str())? != Err(2) {
         return Ok(false);
     }
     let Some((less, _)) = line.rsplit_once(' ') else {
         return Ok(true);
     };
     let less = format!(in alloc; "caller 1 0 0\n{less}")?;
-    Ok(outcome(alloc, Command::Play, less.as_str())? == Err(2))
+    Ok(outcome(alloc, command, less.as_str())? == Err(2))
+}
+
+/// Whether the row's line is read and printed as its canonical line.
+fn is_printed(alloc: Global, command: Command, row: &str) -> Result<bool, NoMemory> {
+    let (line, canonical) = row.split_once('|').unwrap_or((row, row));
+    let text = format!(in alloc; "# x\n\ncaller 1 0 0\n{line}")?;
+    let wanted = format!(in alloc; "caller 1 0 0\n{canonical}\n")?;
+    match reprinted(alloc, command, text.as_str()) {
+        Ok(printed) => Ok(
+            printed.as_slice() == wanted.as_bytes() && has_its_words(alloc, command, line)?,
+        ),
+        Err(_) => Ok(false),
+    }
+}
+
+/// The first row of the table that is not read and printed so.
+fn misprinted<'a>(
+    alloc: Global,
+    command: Command,
+    table: &'a str,
+) -> Result<Option<&'a str>, NoMemory> {
+    for row in table.split('\n') {
+        if !is_printed(alloc, command, row)? {
+            return Ok(Some(row));
+        }
+    }
+    Ok(None)
 }
 
 #[test]
 fn each_form_is_read_and_printed(rt: HostRuntime) -> Result<(), Fail> {
     let alloc = rt.alloc();
-    for row in BOTH.split('\n') {
-        let (line, canonical) = row.split_once('|').unwrap_or((row, row));
-        let text = format!(in alloc; "# x\n\ncaller 1 0 0\n{line}")?;
-        let wanted = format!(in alloc; "caller 1 0 0\n{canonical}\n")?;
-        let played = reprinted(alloc, Command::Play, text.as_str())?;
-        assert_eq!(rt; played.as_slice(), wanted.as_bytes(), "{row}");
-        let run = reprinted(alloc, Command::Run, text.as_str())?;
-        assert_eq!(rt; run.as_slice(), wanted.as_bytes(), "{row}");
-        assert!(rt; has_its_words(alloc, line)?, "{row}");
-    }
-    for line in PLAYED.split('\n') {
-        let text = format!(in alloc; "caller 1 0 0\n{line}\n")?;
-        let played = reprinted(alloc, Command::Play, text.as_str())?;
-        assert_eq!(rt; played.as_slice(), text.as_bytes(), "{line}");
-        assert!(rt; has_its_words(alloc, line)?, "{line}");
-    }
-    let cut = "cut 1 4294967295\n";
-    assert_eq!(rt;
-        reprinted(alloc, Command::Run, cut)?.as_slice(),
-        cut.as_bytes()
-    );
-    assert_eq!(rt; outcome(alloc, Command::Play, "")?, Ok(0));
+    assert_eq!(rt; misprinted(alloc, Command::Play, BOTH)?, None);
+    assert_eq!(rt; misprinted(alloc, Command::Run, BOTH)?, None);
+    assert_eq!(rt; misprinted(alloc, Command::Play, PLAYED)?, None);
+    assert_eq!(rt; misprinted(alloc, Command::Run, "cut 1 4294967295")?, None);
     Ok(())
 }
 
@@ -238,28 +247,40 @@ fn is_outside(alloc: Global, command: Command, line: &str, least: u64) -> Result
     Ok(true)
 }
 
+/// The first line of the table that is not the first outside wherever it stands.
+fn let_through<'a>(
+    alloc: Global,
+    command: Command,
+    table: &'a str,
+    least: u64,
+) -> Result<Option<&'a str>, NoMemory> {
+    for line in table.split('\n') {
+        if !is_outside(alloc, command, line, least)? {
+            return Ok(Some(line));
+        }
+    }
+    Ok(None)
+}
+
+/// Lines that may not stand behind the line of caller 1.
+const BAD_BEHIND: &str = "caller 1 0 0\n2 close 0\nqueue 2 0";
+
 #[test]
 fn the_first_line_outside_is_named(rt: HostRuntime) -> Result<(), Fail> {
     let alloc = rt.alloc();
     for table in [BAD_FRONTS, BAD_FILES, BAD_VALUES] {
-        for line in table.split('\n') {
-            assert!(rt; is_outside(alloc, Command::Play, line, 1)?, "{line}");
-            assert!(rt; is_outside(alloc, Command::Run, line, 1)?, "{line}");
-        }
+        assert_eq!(rt; let_through(alloc, Command::Play, table, 1)?, None);
+        assert_eq!(rt; let_through(alloc, Command::Run, table, 1)?, None);
     }
-    for line in PLAYED.split('\n') {
-        assert!(rt; is_outside(alloc, Command::Run, line, 1)?, "{line}");
-    }
-    assert!(rt; is_outside(alloc, Command::Play, "cut 1 0", 1)?);
-    for line in ["caller 1 0 0", "2 close 0", "queue 2 0"] {
-        assert!(rt; is_outside(alloc, Command::Play, line, 2)?, "{line}");
-    }
+    assert_eq!(rt; let_through(alloc, Command::Run, PLAYED, 1)?, None);
+    assert_eq!(rt; let_through(alloc, Command::Play, "cut 1 0", 1)?, None);
+    assert_eq!(rt; let_through(alloc, Command::Play, BAD_BEHIND, 2)?, None);
     for (text, number) in [
         ("cut 1 0\ncut 1 0\ncaller 1 0 0\n", 2),
         ("cut 1 0\n\n# x\ncut 2 0\nbad\n", 4),
         ("caller 1 0 0\ncut 1 0\n1 close 0\ncut 1 0", 4),
     ] {
-        assert_eq!(rt; outcome(alloc, Command::Run, text)?, Err(number), "{text}");
+        assert_eq!(rt; outcome(alloc, Command::Run, text)?, Err(number));
     }
     Ok(())
 }
@@ -273,28 +294,37 @@ fn copies(alloc: Global, text: &str, count: usize) -> Result<String, NoMemory> {
     Ok(copies)
 }
 
+/// What comes of a script of so many empty lines.
+fn outcome_of_lines(alloc: Global, count: usize) -> Result<Result<usize, u64>, NoMemory> {
+    let text = copies(alloc, "\n", count)?;
+    outcome(alloc, Command::Play, text.as_str())
+}
+
+/// Whether a path is read of so many names of one letter, and a last one of so many letters.
+fn is_path(alloc: Global, names: usize, letters: usize) -> Result<bool, NoMemory> {
+    let front = copies(alloc, "/a", names)?;
+    let name = copies(alloc, "b", letters)?;
+    let text = format!(in alloc; "caller 1 0 0\n1 rmdir {front}/{name}\n")?;
+    Ok(outcome(alloc, Command::Run, text.as_str())? == Ok(2))
+}
+
 #[test]
 fn names_paths_and_scripts_have_bounds(rt: HostRuntime) -> Result<(), Fail> {
     let alloc = rt.alloc();
     assert_eq!(rt; (CALLERS, MOST_LINES), (16, 65_536));
-    let most = copies(alloc, "\n", 65_536)?;
-    assert_eq!(rt; outcome(alloc, Command::Play, most.as_str())?, Ok(0));
-    let more = format!(in alloc; "{most}#")?;
-    assert_eq!(rt; outcome(alloc, Command::Play, more.as_str())?, Err(65_537));
-    let name = copies(alloc, "a", 200)?;
-    let path = copies(alloc, "/a", 63)?;
-    for (line, is_form) in [
-        (format!(in alloc; "rmdir {path}/{name}")?, true),
-        (format!(in alloc; "rmdir /{name}b")?, false),
-        (format!(in alloc; "rmdir {path}/a/a")?, false),
-        (format!(in alloc; "write 0 r:65536:00")?, true),
+    for (count, wanted) in [(0, Ok(0)), (65_536, Ok(0)), (65_537, Err(65_537))] {
+        assert_eq!(rt; outcome_of_lines(alloc, count)?, wanted);
+    }
+    for (names, letters, wanted) in [
+        (0, 200, true),
+        (0, 201, false),
+        (63, 200, true),
+        (64, 1, false),
     ] {
-        let text = format!(in alloc; "caller 1 0 0\n1 {line}\n")?;
-        let wanted = if is_form { Ok(2) } else { Err(2) };
         assert_eq!(rt;
-            outcome(alloc, Command::Run, text.as_str())?,
+            is_path(alloc, names, letters)?,
             wanted,
-            "{line}"
+            "{names} {letters}"
         );
     }
     Ok(())
@@ -319,22 +349,11 @@ fn lines_have_numbers_and_forms(rt: HostRuntime) -> Result<(), Fail> {
         },
     ]?;
     assert!(rt; script.lines() == wanted.as_slice());
+    let again = print_and_read_play(alloc, &script)?;
+    assert!(rt; again.lines().iter().map(|line| line.number).eq([1, 2]));
     assert!(rt; script.into_lines() == wanted);
     let none = Script::new(Command::Run, Vec::new(alloc));
     assert!(rt; none.lines().is_empty());
-    Ok(())
-}
-
-#[test]
-fn what_is_printed_is_read_again(rt: HostRuntime) -> Result<(), Fail> {
-    let alloc = rt.alloc();
-    let text = b"# x\n\ncaller 1 0 7\n1 write 0 t:hi".as_slice();
-    let canonical = b"caller 1 0 7\n1 write 0 h:6869\n".as_slice();
-    let run = print_and_read_run(alloc, &read_run(alloc, text)?)?;
-    assert_eq!(rt; print_script(alloc, &run)?.as_slice(), canonical);
-    let played = print_and_read_play(alloc, &read_play(alloc, text)?)?;
-    assert_eq!(rt; print_script(alloc, &played)?.as_slice(), canonical);
-    assert!(rt; played.lines().last().is_some_and(|line| line.number == 2));
     Ok(())
 }
 
