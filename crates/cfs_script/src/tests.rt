@@ -111,28 +111,23 @@ fn is_printed(alloc: Global, command: Command, row: &str) -> Result<bool, NoMemo
     }
 }
 
-/// The first row of the table that is not read and printed so.
-fn misprinted<'a>(
-    alloc: Global,
-    command: Command,
-    table: &'a str,
-) -> Result<Option<&'a str>, NoMemory> {
+/// Fails at the first row of the table that is not read and printed so.
+fn print_all(alloc: Global, command: Command, table: &str) -> Result<(), Fail> {
     for row in table.split('\n') {
         if !is_printed(alloc, command, row)? {
-            return Ok(Some(row));
+            return Err(Fail::new(row));
         }
     }
-    Ok(None)
+    Ok(())
 }
 
 #[test]
 fn each_form_is_read_and_printed(rt: HostRuntime) -> Result<(), Fail> {
     let alloc = rt.alloc();
-    assert_eq!(rt; misprinted(alloc, Command::Play, BOTH)?, None);
-    assert_eq!(rt; misprinted(alloc, Command::Run, BOTH)?, None);
-    assert_eq!(rt; misprinted(alloc, Command::Play, PLAYED)?, None);
-    assert_eq!(rt; misprinted(alloc, Command::Run, "cut 1 4294967295")?, None);
-    Ok(())
+    print_all(alloc, Command::Play, BOTH)?;
+    print_all(alloc, Command::Run, BOTH)?;
+    print_all(alloc, Command::Play, PLAYED)?;
+    print_all(alloc, Command::Run, "cut 1 4294967295")
 }
 
 /// Lines that no script has: bytes, spaces, the words that begin a line, numbers.
@@ -247,19 +242,14 @@ fn is_outside(alloc: Global, command: Command, line: &str, least: u64) -> Result
     Ok(true)
 }
 
-/// The first line of the table that is not the first outside wherever it stands.
-fn let_through<'a>(
-    alloc: Global,
-    command: Command,
-    table: &'a str,
-    least: u64,
-) -> Result<Option<&'a str>, NoMemory> {
+/// Fails at the first line of the table that is not the first outside wherever it stands.
+fn refuse_all(alloc: Global, command: Command, table: &str, least: u64) -> Result<(), Fail> {
     for line in table.split('\n') {
         if !is_outside(alloc, command, line, least)? {
-            return Ok(Some(line));
+            return Err(Fail::new(line));
         }
     }
-    Ok(None)
+    Ok(())
 }
 
 /// Lines that may not stand behind the line of caller 1.
@@ -269,18 +259,26 @@ const BAD_BEHIND: &str = "caller 1 0 0\n2 close 0\nqueue 2 0";
 fn the_first_line_outside_is_named(rt: HostRuntime) -> Result<(), Fail> {
     let alloc = rt.alloc();
     for table in [BAD_FRONTS, BAD_FILES, BAD_VALUES] {
-        assert_eq!(rt; let_through(alloc, Command::Play, table, 1)?, None);
-        assert_eq!(rt; let_through(alloc, Command::Run, table, 1)?, None);
+        refuse_all(alloc, Command::Play, table, 1)?;
+        refuse_all(alloc, Command::Run, table, 1)?;
     }
-    assert_eq!(rt; let_through(alloc, Command::Run, PLAYED, 1)?, None);
-    assert_eq!(rt; let_through(alloc, Command::Play, "cut 1 0", 1)?, None);
-    assert_eq!(rt; let_through(alloc, Command::Play, BAD_BEHIND, 2)?, None);
+    refuse_all(alloc, Command::Run, PLAYED, 1)?;
+    refuse_all(alloc, Command::Play, "cut 1 0", 1)?;
+    refuse_all(alloc, Command::Play, BAD_BEHIND, 2)
+}
+
+#[test]
+fn a_second_cut_is_outside(rt: HostRuntime) -> Result<(), Fail> {
     for (text, number) in [
         ("cut 1 0\ncut 1 0\ncaller 1 0 0\n", 2),
         ("cut 1 0\n\n# x\ncut 2 0\nbad\n", 4),
         ("caller 1 0 0\ncut 1 0\n1 close 0\ncut 1 0", 4),
     ] {
-        assert_eq!(rt; outcome(alloc, Command::Run, text)?, Err(number));
+        assert_eq!(rt;
+            outcome(rt.alloc(), Command::Run, text)?,
+            Err(number),
+            "{text}"
+        );
     }
     Ok(())
 }
