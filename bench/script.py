@@ -49,11 +49,15 @@ int main(int argc, char **argv) {
 
 
 def script(mark, byte):
-    """A script of as many bytes and lines as there may be, nearly all of them writes with data of one spelling."""
+    """A script of as many bytes and lines as there may be, nearly all of them writes with data of one spelling. Where
+    a byte takes two digits, the whole may lack one byte."""
     lines = ["caller 1 10 10", "1 open /a rwc 0644"]
+    left = BYTES - sum(len(line) + 1 for line in lines)
     while len(lines) < LINES:
         front = f"1 pwrite 0 {16 * len(lines) % LAST_OFFSET} {mark}"
-        lines.append(front + byte * ((BYTES // LINES - 1 - len(front)) // len(byte)))
+        count = (left // (LINES - len(lines)) - 1 - len(front)) // len(byte)
+        lines.append(front + byte * count)
+        left -= len(lines[-1]) + 1
     return "\n".join(lines) + "\n"
 
 

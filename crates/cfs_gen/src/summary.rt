@@ -1,6 +1,6 @@
 //! The line that sums up how a workload was answered.
 
-ghost use Rattle.std.specs.Prelude.{◌≡◌, ◌+◌, ◌^◌, ◌<◌, ◌++◌, ◌∷◌, [], ℕ, List, Bool, IfOk, OnOk};
+ghost use Rattle.std.specs.Prelude.{◌≡◌, ◌+◌, ◌^◌, ◌<◌, ◌++◌, ◌∷◌, [], ℕ, List, Bool, IfOk, OnOk, nat_le};
 ghost use Rattle.std.specs.Fmt.{decimal};
 ghost use Rattle.cfs_script.specs.declared.form.Form.{Form};
 ghost use Rattle.cfs_gen.specs.Summary.{counted, summary_of, summary_text};
@@ -47,6 +47,13 @@ impl Summary {
             syncs: 0,
             ok: 0,
         }
+    }
+
+    /// Whether there is no room for another request.
+    pub fn is_full(&self) -> bool
+        ensures { result ≡ nat_le (2 ^ 64) (self.now.requests + 1) }
+    {
+        self.requests == u64::MAX
     }
 
     /// Counts a line, and whether it was answered ok. A line that is no request is not counted.

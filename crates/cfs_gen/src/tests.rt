@@ -1,5 +1,5 @@
-use crate::{Summary, gen_script, print_summary};
-use cfs_script::read_play;
+use crate::{MOST_REQUESTS, Summary, gen_script, print_summary};
+use cfs_script::{Form, Script, read_play};
 use std::test::Fail;
 
 /// The workload of number 7 up to its request of number 40, worked by hand.
@@ -57,13 +57,30 @@ fn a_long_workload_begins_the_same_way(rt: HostRuntime) -> Result<(), Fail> {
     Ok(())
 }
 
+/// The summary of a workload whose requests are answered ok, but for the syncs of caller 1.
+fn summary_of(number: u64, script: &Script) -> Summary {
+    let mut summary = Summary::new(number);
+    for line in script.lines() {
+        let is_ok = !matches!(line.form, Form::Fsync { caller: 1, .. });
+        if !summary.is_full() {
+            summary.add(&line.form, is_ok);
+        }
+    }
+    summary
+}
+
 #[test]
-fn the_counts_are_printed(rt: HostRuntime) -> Result<(), Fail> {
+fn the_counts_of_a_workload_are_printed(rt: HostRuntime) -> Result<(), Fail> {
     let alloc = rt.alloc();
-    let text = print_summary(alloc, &Summary::new(7))?;
     assert_eq!(rt;
-        text.as_slice(),
+        print_summary(alloc, &Summary::new(7))?.as_slice(),
         b"gen number=7 requests=0 writes=0 reads=0 syncs=0 ok=0\n".as_slice()
     );
+    let script = gen_script(alloc, 7, 20_000)?;
+    assert_eq!(rt;
+        print_summary(alloc, &summary_of(7, &script))?.as_slice(),
+        b"gen number=7 requests=20000 writes=12000 reads=4000 syncs=4000 ok=19500\n".as_slice()
+    );
+    assert_eq!(rt; MOST_REQUESTS, 32_000);
     Ok(())
 }

@@ -3,7 +3,7 @@
 use crate::Form;
 
 /// A line of a script.
-#[derive(Debug, Drop, Clone, PartialEq, Eq)]
+#[derive(Debug, Drop, PartialEq, Eq)]
 pub struct Line {
     /// Its number, from 1.
     pub number: u64,

@@ -1,4 +1,4 @@
-use crate::{Flags, Seek, Words, number_in};
+use crate::{Flags, LARGEST_NUMBER, Seek, Words, number_in};
 use std::test::Fail;
 
 #[test]
@@ -40,5 +40,6 @@ fn words_have_values(rt: HostRuntime) -> Result<(), Fail> {
     assert_eq!(rt; Words::of(b"cur -0").whence().ok(), Some(Seek::On(0)));
     assert_eq!(rt; Words::of(b"cur -7").whence().ok(), Some(Seek::Back(7)));
     assert_eq!(rt; number_in(b"010", 0, 10), None);
+    assert_eq!(rt; LARGEST_NUMBER, 4_294_967_295);
     Ok(())
 }
