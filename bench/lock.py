@@ -10,10 +10,9 @@ Build the program first (`rt ci` does, and `rt run -- apart 10` in crates/cfs_lo
 `bench/lock.py [PROGRAM]`.
 """
 import os
-import resource
-import subprocess
 import sys
-import time
+
+from timing import both_of_a_round
 
 TOP = os.path.dirname(os.path.dirname(os.path.abspath(__file__)))
 BUILT = os.path.join(TOP, "crates/cfs_lock_bench/out/cfs_lock_bench")
@@ -26,28 +25,12 @@ FORMS = [
 RUNS = 5
 
 
-def busy():
-    """The seconds that processors spent on programs that were started and have ended."""
-    used = resource.getrusage(resource.RUSAGE_CHILDREN)
-    return used.ru_utime + used.ru_stime
-
-
-def least(form, count):
-    """The least time of several runs, in seconds, by the clock and of processors."""
-    times = []
-    for _ in range(RUNS):
-        start, used = time.perf_counter(), busy()
-        subprocess.run([PROGRAM, form, str(count)], check=True, stdout=subprocess.DEVNULL)
-        times.append((time.perf_counter() - start, busy() - used))
-    return [min(column) for column in zip(*times)]
-
-
 def main():
     print(f"{'nanoseconds a turn':26}{'clock':>10}{'processors':>12}")
     for form, threads, few, many, name in FORMS:
-        turns = (many - few) * threads
-        clock, used = (b - a for a, b in zip(least(form, few), least(form, many)))
-        print(f"{name:26}{clock / turns * 1e9:10.1f}{used / turns * 1e9:12.1f}")
+        times = both_of_a_round(RUNS, [PROGRAM, form], few, many)
+        clock, used = (time / threads * 1e9 for time in times)
+        print(f"{name:26}{clock:10.1f}{used:12.1f}")
 
 
 main()

@@ -1,5 +1,5 @@
 #!/usr/bin/env python3
-"""Times the parts of a file's state in memory, in nanoseconds a call.
+"""Times the parts of a file's state in memory, in nanoseconds of a processor a call.
 
 Of the tree of spans an insert (which looks first whether the place is new, and makes room), a
 remove and both queries, over 100, 1,000 and 10,000 spans, beside a plain list that is walked for
@@ -14,7 +14,7 @@ then run `bench/parts.py [PROGRAM]`.
 import os
 import sys
 
-from timing import round_of
+from timing import both_of_a_round
 
 TOP = os.path.dirname(os.path.dirname(os.path.abspath(__file__)))
 BUILT = os.path.join(TOP, "crates/cfs_parts_bench/out/cfs_parts_bench")
@@ -29,8 +29,9 @@ QUERIES = (("overlap", "first_overlap_between"), ("covered", "next_covered"))
 def nanoseconds(what, size, calls, a_round=1):
     """The time of one call: so many calls are timed, of which each round makes so many."""
     many = max(calls // a_round, 2)
-    seconds = round_of(RUNS, [PROGRAM, what, str(size)], max(many // 10, 1), many)
-    return seconds / a_round * 1e9
+    words = [PROGRAM, what, str(size)]
+    _, used = both_of_a_round(RUNS, words, max(many // 10, 1), many)
+    return used / a_round * 1e9
 
 
 def line(name, *numbers):
