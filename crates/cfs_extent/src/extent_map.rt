@@ -4,11 +4,12 @@ ghost use Rattle.cfs_extent.specs.Extents.{IsNextFrom, block_at};
 
 use crate::room::insert_within;
 use crate::runs::Runs;
+use cfs_file::FILE_BLOCKS;
 use std::alloc::{AllocError, Global};
 use std::marker::Model;
 
 /// How many file blocks a file has at most; they count from 0.
-pub const BLOCKS: u32 = 256;
+pub const BLOCKS: u32 = FILE_BLOCKS as u32;
 
 /// The blocks of one file by file block. A block that is out has its file block kept for it.
 ///

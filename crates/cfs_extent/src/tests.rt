@@ -36,6 +36,7 @@ fn put_back(map: &mut ExtentMap<u32>, k: u32, block: u32) -> Option<u32> {
 /// Each public call once; the map joins runs and parts them.
 #[test]
 fn calls(rt: HostRuntime) -> Result<(), AllocError> {
+    assert_eq!(rt; BLOCKS, 256);
     let mut map: ExtentMap<u32> = ExtentMap::new(rt.alloc());
     for (k, block) in [(7, 70), (5, 50), (6, 60), (255, 9)] {
         assert!(rt; put(&mut map, k, block)?, "{k}");
@@ -56,7 +57,7 @@ fn calls(rt: HostRuntime) -> Result<(), AllocError> {
     Ok(())
 }
 
-/// A thousand drawn calls, beside a plain table of all file blocks.
+/// Two thousand drawn calls, beside a plain table of all file blocks.
 #[test]
 fn as_a_table(rt: HostRuntime) -> Result<(), AllocError> {
     let mut map: ExtentMap<u32> = ExtentMap::new(rt.alloc());

@@ -115,10 +115,9 @@ impl<T: Numbered + Drop> Pool<T> {
         }
     }
 
-    /// Takes the `k` items of the lowest numbers, ascending; each place of the answer has one. Short
-    /// exactly where fewer are free, and then nothing changes.
-    pub fn take(&mut self, k: u32) -> Result<ArrayVec<Option<T>, FEW>, Short>
-        requires { k ≤ 2 }
+    /// Takes the `k` items of the lowest numbers, ascending, into room for `N`.
+    fn lowest<const N: usize>(&mut self, k: u32) -> Result<ArrayVec<Option<T>, N>, Short>
+        requires { k ≤ N }
         ensures short { IsErr result ↔ (length self.old.free < k) }
         ensures counts { IfErr result (λ short.
             short ≡ record { need = k; free = length self.old.free }) }
@@ -137,6 +136,22 @@ impl<T: Numbered + Drop> Pool<T> {
         Ok(pop_lowest(&mut self.heap, k))
     }
 
+    /// Takes the `k` items of the lowest numbers, ascending; each place of the answer has one. Short
+    /// exactly where fewer are free, and then nothing changes.
+    pub fn take(&mut self, k: u32) -> Result<ArrayVec<Option<T>, FEW>, Short>
+        requires { k ≤ 2 }
+        ensures short { IsErr result ↔ (length self.old.free < k) }
+        ensures counts { IfErr result (λ short.
+            short ≡ record { need = k; free = length self.old.free }) }
+        ensures unchanged { OnErr result (self.new ≡ self.old) }
+        ensures count { IfOk result (λ taken. length (taken_of taken.items) ≡ k) }
+        ensures lowest { IfOk result (λ taken.
+            TakesLowest T.number self.old.free (taken_of taken.items) self.new.free) }
+        ensures room { self.new.room ≡ self.old.room }
+    {
+        self.lowest(k)
+    }
+
     /// The same for up to 17 items.
     pub fn take_many(&mut self, k: u32) -> Result<ArrayVec<Option<T>, MANY>, Short>
         requires { k ≤ 17 }
@@ -149,13 +164,7 @@ impl<T: Numbered + Drop> Pool<T> {
             TakesLowest T.number self.old.free (taken_of taken.items) self.new.free) }
         ensures room { self.new.room ≡ self.old.room }
     {
-        if self.free() < k {
-            return Err(Short {
-                need: k,
-                free: self.free(),
-            });
-        }
-        Ok(pop_lowest(&mut self.heap, k))
+        self.lowest(k)
     }
 }
 

@@ -1,7 +1,7 @@
 -- What stands at the numbers of a queue.
-use Rattle.std.proofs.Common.{ℕ, zero, suc, ◌+◌, ◌<◌, ◌≤◌, ◌≡◌, ◌∙◌, Bool, true, false, cond, Option, Some, None, List, [], ◌∷◌, ◌++◌, length, map, refl, sym, ap, arith, get_or}
+use Rattle.std.proofs.Common.{ℕ, zero, suc, ◌+◌, ◌<◌, ◌≤◌, ◌≡◌, ◌∙◌, true, false, cond, Option, Some, None, List, [], ◌∷◌, ◌++◌, length, map, refl, sym, ap, arith, get_or}
 use Rattle.std.proofs.Math.ListN.{set}
-use Rattle.std.specs.List.{count_by, position, position_from, refill, sum_by}
+use Rattle.std.specs.List.{count_by, position, position_from, refill}
 use Rattle.std.proofs.lemmas.List.{get_or-map, length-map, length-set, map-set}
 use Rattle.std.proofs.lemmas.List.Quantifiers.{position-Some}
 use Rattle.std.proofs.lemmas.Iterator.Adapters.{position_from-zero}

@@ -12,3 +12,6 @@ mod rows;
 
 pub use queue::Queue;
 pub use refusal::{Few, Full};
+
+#[cfg(test)]
+mod tests;

@@ -1,4 +1,4 @@
-use Rattle.std.proofs.Common.{◌≡◌, ◌∙◌, ◌∷◌, [], ◌++◌, List, length, map, refl, reverse, ap, arith, length-append}
+use Rattle.std.proofs.Common.{◌∙◌, ◌∷◌, [], ◌++◌, List, length, map, refl, reverse, ap, arith, length-append}
 use Rattle.std.proofs.lemmas.List.{reverse-reverse}
 use Rattle.std.specs.Option.{option_to_list}
 use Rattle.cfs_vec.specs.Items.{items_of}
@@ -6,7 +6,7 @@ use Rattle.cfs_slot.specs.declared.slot.Slot.{Slot}
 use Rattle.cfs_slot.proofs.SlotsLemmas.{all_moved, one_moved}
 use Rattle.cfs_queue.specs.declared.kept.Kept.{Kept}
 use Rattle.cfs_queue.specs.declared.kept.Kept.TheVariants.{Free}
-use Rattle.cfs_queue.specs.Queue.{Held, free}
+use Rattle.cfs_queue.specs.Queue.{free}
 use Rattle.cfs_queue.specs.Rows.{seen_all, seen_as}
 use Rattle.cfs_queue.proofs.RowLemmas.{free_map}
 use Rattle.cfs_queue.proofs.rows.all_free.Goals as goal

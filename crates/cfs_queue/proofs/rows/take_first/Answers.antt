@@ -1,4 +1,4 @@
-use Rattle.std.proofs.Common.{◌≡◌, ◌∙◌, Bool, true, false, None, Some, List, get_or, sym, ap}
+use Rattle.std.proofs.Common.{◌≡◌, ◌∙◌, true, false, Some, List, sym, ap}
 use Rattle.std.specs.List.{position}
 use Rattle.cfs_queue.specs.declared.kept.Kept.{Kept}
 use Rattle.cfs_queue.specs.declared.kept.Kept.TheVariants.{Free, Out}

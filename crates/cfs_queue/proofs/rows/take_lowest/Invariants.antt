@@ -1,6 +1,5 @@
-use Rattle.std.proofs.Common.{◌≡◌, ◌+◌, ◌≤◌, length}
+use Rattle.std.proofs.Common.{◌≡◌, length}
 use Rattle.cfs_slot.specs.Regions.{of_slots}
-use Rattle.cfs_queue.specs.Queue.{free_in}
 use Rattle.cfs_queue.specs.Rows.{seen_all}
 use Rattle.cfs_queue.specs.Taking.{TakesMany}
 use Rattle.cfs_queue.proofs.rows.take_lowest.Given as goal

@@ -1,4 +1,4 @@
-use Rattle.std.proofs.Common.{◌≡◌, ◌-◌, ◌%◌, ◌∙◌, ℕ, List, ap, arith, sym, subst}
+use Rattle.std.proofs.Common.{◌≡◌, ◌-◌, ◌%◌, ◌∙◌, ℕ, List, ap, sym, subst}
 use Rattle.std.proofs.Math.ListN.{set}
 use Rattle.cfs_slot.specs.Tails.{number_of}
 use Rattle.cfs_queue.specs.Queue.{Held, IsOf, IsQueue, Slots, free}

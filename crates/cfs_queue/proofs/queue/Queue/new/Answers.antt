@@ -1,6 +1,6 @@
-use Rattle.std.proofs.Common.{◌≡◌, List, ap, map, subst, sym}
+use Rattle.std.proofs.Common.{List, ap, subst, sym}
 use Rattle.cfs_slot.specs.Regions.{of_slots}
-use Rattle.cfs_queue.specs.Queue.{Held, IsQueue, Slots, free}
+use Rattle.cfs_queue.specs.Queue.{Held, IsQueue, Slots}
 use Rattle.cfs_queue.proofs.QueueLemmas.{queue_new}
 use Rattle.cfs_queue.proofs.queue.Queue.new.Goals as goal
 
