@@ -3,4 +3,3 @@ pub mod Appends
 pub mod Standing
 pub mod Journals
 pub mod Distinct
-pub mod Recovered
