@@ -3,8 +3,10 @@
 
 mod grant;
 mod grants;
+mod removed;
 #[cfg(test)]
 mod tests;
 
 pub use grant::Grant;
 pub use grants::{Grants, MOST_GRANTS};
+pub use removed::{RECORDS, Removed, RemovedFiles};
