@@ -3,16 +3,20 @@
 
 `cfs_bench read SCRIPT N` reads a script N times, and `cfs_bench print SCRIPT N` reads it once and prints
 it N times. Two counts are timed, and the difference is divided by the difference of the counts, so that
-starting the program and reading the file do not count. Reading counts the bytes of the script, printing those
+starting the program and reading the file do not count. Both the clock and the processor's time are told: the
+clock says little while other work is done beside. Reading counts the bytes of the script, printing those
 of its canonical text. Beside them a C loop copies the same bytes line by line, each into memory of its
 own: what it costs is what the memory costs. Build the program first (`rt ci` does, and `rt run -- 10` in
 crates/cfs_bench), then run `bench/script.py [PROGRAM]`.
 """
 import os
+import resource
+import subprocess
 import sys
 import tempfile
+import time
 
-from timing import compiled, round_of
+from timing import compiled
 
 TOP = os.path.dirname(os.path.dirname(os.path.abspath(__file__)))
 PROGRAM = sys.argv[1] if len(sys.argv) > 1 else os.path.join(TOP, "crates/cfs_bench/out/cfs_bench")
@@ -67,6 +71,22 @@ def canonical_len(text):
     return len(text) + marked
 
 
+def taken(words):
+    """The time of one run, in seconds by the clock and of the processor."""
+    clock, before = time.perf_counter(), resource.getrusage(resource.RUSAGE_CHILDREN)
+    subprocess.run(words, check=True, stdout=subprocess.DEVNULL)
+    after = resource.getrusage(resource.RUSAGE_CHILDREN)
+    return time.perf_counter() - clock, after.ru_utime + after.ru_stime - before.ru_utime - before.ru_stime
+
+
+def rates(size, words):
+    """The least times of several runs, of one round each, as MB/s of so many bytes."""
+    few = [taken(words + [str(FEW)]) for _ in range(RUNS)]
+    many = [taken(words + [str(MANY)]) for _ in range(RUNS)]
+    rounds = [(min(most) - min(least)) / (MANY - FEW) for most, least in zip(zip(*many), zip(*few))]
+    return "".join(f"{size / seconds / 1e6:8.0f}" for seconds in rounds)
+
+
 def main():
     with tempfile.TemporaryDirectory() as folder:
         copies = compiled(COPIES, folder)
@@ -75,13 +95,10 @@ def main():
             text = script(mark, byte)
             with open(path, "w", encoding="ascii") as file:
                 file.write(text)
-            read = round_of(RUNS, [PROGRAM, "read", path], FEW, MANY)
-            printed = round_of(RUNS, [PROGRAM, "print", path], FEW, MANY)
-            copied = round_of(RUNS, [copies, path], FEW, MANY)
-            print(f"{kind}, {len(text)} bytes")
-            print(f"  read        {len(text) / read / 1e6:8.0f} MB/s")
-            print(f"  printed     {canonical_len(text) / printed / 1e6:8.0f} MB/s")
-            print(f"  copied in C {len(text) / copied / 1e6:8.0f} MB/s")
+            print(f"{kind}, {len(text)} bytes: MB/s by the clock and of the processor's time")
+            print("  read       ", rates(len(text), [PROGRAM, "read", path]))
+            print("  printed    ", rates(canonical_len(text), [PROGRAM, "print", path]))
+            print("  copied in C", rates(len(text), [copies, path]))
 
 
 main()

@@ -1,6 +1,7 @@
 //! The line that sums up how a workload was answered.
 
-ghost use Rattle.std.specs.Prelude.{◌≡◌, ◌+◌, ◌^◌, ◌<◌, ◌++◌, ◌∷◌, [], ℕ, List, Bool, IfOk, OnOk, nat_le};
+ghost use Rattle.std.specs.Prelude.{◌≡◌, ◌+◌, ◌^◌, ◌<◌, ◌++◌, ◌∷◌, [], ℕ, List, Bool, IfOk, OnOk};
+ghost use Rattle.std.specs.Prelude.{nat_le};
 ghost use Rattle.std.specs.Fmt.{decimal};
 ghost use Rattle.cfs_script.specs.declared.form.Form.{Form};
 ghost use Rattle.cfs_gen.specs.Summary.{counted, summary_of, summary_text};
