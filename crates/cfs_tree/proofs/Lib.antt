@@ -7,3 +7,4 @@ pub mod Kept
 pub mod Holding
 pub mod Searching
 pub mod Lists
+pub mod Tens

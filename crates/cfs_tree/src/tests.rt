@@ -1,4 +1,6 @@
-ghost use Rattle.std.specs.Prelude.{◌≡◌, ◌<◌, ◌+◌, ◌^◌};
+ghost use Rattle.std.specs.Prelude.{◌≡◌, ◌<◌, ◌≤◌, ◌+◌, ◌^◌, length, true, Ok};
+ghost use Rattle.cfs_tree.specs.Spans.{IsBounded, insert_in_order, overlap_count};
+ghost use Rattle.cfs_file.specs.declared.span.Span.TheVariants.{Range as TheRange};
 
 use crate::{SpanTree, Steps};
 use cfs_file::{NoMemory, Span, covers, overlaps};
@@ -20,6 +22,8 @@ fn keep<L: Ledger>(
 ) -> Result<bool, NoMemory>
     requires order { from < to }
     requires fits { to + 1 < 2 ^ 64 }
+    ensures kept { result ≡ Ok true →
+        tree.new.spans ≡ insert_in_order (place, TheRange from to) tree.old.spans }
 {
     tree.reserve()?;
     if tree.find(place, steps).is_some() {
@@ -27,6 +31,31 @@ fn keep<L: Ledger>(
     }
     tree.insert(place, Span::Range { from, to });
     Ok(true)
+}
+
+/// The first overlap of a span that overlaps one of 200 at most, in 32 steps at most.
+fn first_of_one<L: Ledger>(tree: &SpanTree, asked: &Span, steps: &mut Steps<L>) -> Option<u64>
+    requires bounded { IsBounded asked.now }
+    requires spans { length tree.now.spans ≤ 200 }
+    requires one { overlap_count asked.now tree.now.spans ≤ 1 }
+    ensures few { steps.new ≤ steps.old + 32 }
+{
+    tree.first_overlap_between(asked, 0, 201, steps)
+}
+
+/// The next one that is covered by a span that overlaps ten of 200 at most, in 176 steps at most.
+fn next_of_ten<L: Ledger>(
+    tree: &SpanTree,
+    asked: &Span,
+    after: u64,
+    steps: &mut Steps<L>,
+) -> Option<u64>
+    requires bounded { IsBounded asked.now }
+    requires spans { length tree.now.spans ≤ 200 }
+    requires ten { overlap_count asked.now tree.now.spans ≤ 10 }
+    ensures few { steps.new ≤ steps.old + 176 }
+{
+    tree.next_covered(asked, after, 201, steps)
 }
 
 fn kept_in_tens<L: Ledger>(alloc: Global, rt: &impl Abort, blank: Blank) -> Result<(), NoMemory>
@@ -44,13 +73,10 @@ fn kept_in_tens<L: Ledger>(alloc: Global, rt: &impl Abort, blank: Blank) -> Resu
         from: 1000,
         to: 1005,
     };
-    assert_eq!(rt;
-        tree.first_overlap_between(&asked, 0, 201, &mut steps),
-        Some(101)
-    );
+    assert_eq!(rt; first_of_one(&tree, &asked, &mut steps), Some(101));
     let wide = Span::Range { from: 0, to: 100 };
-    assert_eq!(rt; tree.next_covered(&wide, 0, 201, &mut steps), Some(1));
-    assert_eq!(rt; tree.next_covered(&wide, 10, 201, &mut steps), None);
+    assert_eq!(rt; next_of_ten(&tree, &wide, 0, &mut steps), Some(1));
+    assert_eq!(rt; next_of_ten(&tree, &wide, 10, &mut steps), None);
     assert_eq!(rt; tree.find(101, &mut steps), Some(asked));
     assert!(rt; tree.remove(101));
     assert!(rt; !tree.remove(101));
