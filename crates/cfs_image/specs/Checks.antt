@@ -20,7 +20,8 @@ pub record Check : Type 0 where
   pub damage : Damage
 
 abbrev pub check : Bool → ℕ → ℕ → ℕ → Check
-check holds offset found against = record { holds = holds; damage = record { offset = offset; found = found; against = against } }
+check holds offset found against =
+    record { holds = holds; damage = record { offset = offset; found = found; against = against } }
 
 -- how long the image should be, by the numbers of blocks and queues in its header
 abbrev pub due_len : Version → List ℕ → ℕ

@@ -11,7 +11,8 @@ use Rattle.cfs_block.specs.Written.{block_left, after_block}
 
 -- a region as a crash leaves it, and the pick behind it
 abbrev pub region_left : Pick → Seen WordStep → Seen WordStep
-region_left pick seen = regions.began seen.device (words_left pick (words_kept seen.history) (words_of seen))
+region_left pick seen =
+    regions.began seen.device (words_left pick (words_kept seen.history) (words_of seen))
 
 abbrev pub after_region : Pick → Seen WordStep → Pick
 after_region pick seen = after_words pick (words_kept seen.history) (words_of seen)
@@ -24,7 +25,8 @@ abbrev pub after_block_of : Pick → Seen BlockStep → Pick
 after_block_of pick seen = after_block pick seen.history
 
 -- objects in their order, each with the pick that stands behind the one before it
-abbrev pub all_left : {Step : Type 0} → (Pick → Seen Step → Seen Step) → (Pick → Seen Step → Pick) → Pick → List (Seen Step) → List (Seen Step)
+abbrev pub all_left : {Step : Type 0} → (Pick → Seen Step → Seen Step) → (Pick → Seen Step → Pick) →
+    Pick → List (Seen Step) → List (Seen Step)
 all_left left after pick [] = []
 all_left left after pick (seen ∷ rest) = left pick seen ∷ all_left left after (after pick seen) rest
 
@@ -47,7 +49,9 @@ after_blocks pick seen = after_all after_block_of pick seen
 
 -- what each region holds is an image of it as it was, and what each block holds
 abbrev pub AreImages : List (Seen WordStep) → List (Seen WordStep) → Type 0
-AreImages old new = (k : ℕ) (d e : Seen WordStep) → k < length old → regions.IsImage (get_or old k d).history (words_of (get_or new k e))
+AreImages old new = (k : ℕ) (d e : Seen WordStep) → k < length old →
+    regions.IsImage (get_or old k d).history (words_of (get_or new k e))
 
 abbrev pub AreBlockImages : List (Seen BlockStep) → List (Seen BlockStep) → Type 0
-AreBlockImages old new = (k : ℕ) (d e : Seen BlockStep) → k < length old → blocks.IsBlockImage (get_or old k d).history (blocks.content_of (get_or new k e))
+AreBlockImages old new = (k : ℕ) (d e : Seen BlockStep) → k < length old →
+    blocks.IsBlockImage (get_or old k d).history (blocks.content_of (get_or new k e))

@@ -5,7 +5,8 @@ use Rattle.cfs_block.specs.BlockImages.{Content}
 use Rattle.cfs_image.specs.Image.{image_of}
 use Rattle.cfs_image.specs.Layout.{region_count, region_words}
 
--- the front of a table: the next inode number is 2, and record 0 has the root, inode 1, its own parent, a directory of mode 0777
+-- the front of a table: the next inode number is 2, and record 0 has the root, inode 1, its own
+-- parent, a directory of mode 0777
 abbrev pub new_table : List ℕ
 new_table = 2 ∷ 1 ∷ 1 ∷ 2 ∷ 511 ∷ []
 
@@ -21,4 +22,6 @@ abbrev pub new_content : Content
 new_content = record { tag = 0; bytes = replicate 4096 0 }
 
 abbrev pub new_image_of : ℕ → ℕ → List ℕ
-new_image_of blocks queues = image_of (map new_words (range_with_len 0 (region_count queues))) (replicate blocks new_content)
+new_image_of blocks queues =
+    image_of (map new_words (range_with_len 0 (region_count queues)))
+    (replicate blocks new_content)

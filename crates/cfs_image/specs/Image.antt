@@ -29,10 +29,12 @@ block_bytes content = little_bytes 8 content.tag ++ content.bytes
 abbrev pub header_of : ℕ → ℕ → List ℕ
 header_of blocks queues = NAME ∷ VERSION ∷ blocks ∷ queues ∷ []
 
--- The image of a store: the header, the words of its regions and the contents of its blocks, both in order of device number.
+-- The image of a store: the header, the words of its regions and the contents of its blocks, both
+-- in order of device number.
 abbrev pub image_of : List (List ℕ) → List Content → List ℕ
 image_of regions blocks =
-    words_bytes (header_of (length blocks) (queues_of (length regions))) ++ (flat_map words_bytes regions ++ flat_map block_bytes blocks)
+    words_bytes (header_of (length blocks) (queues_of (length regions))) ++
+    (flat_map words_bytes regions ++ flat_map block_bytes blocks)
 
 -- what regions and blocks in memory hold now
 abbrev pub words_in : List MemoryRegion → List (List ℕ)
@@ -43,7 +45,10 @@ contents_in blocks = map (λ block. content_of (seen_of block)) blocks
 
 -- It was made with the words it holds now, nothing was written to it since, and it has not failed.
 abbrev pub IsNewRegion : MemoryRegion → Type 0
-IsNewRegion region = region ≡ record { seen = began region.seen.device (words_of region.seen); faults = 0 }
+IsNewRegion region =
+    region ≡ record { seen = began region.seen.device (words_of region.seen); faults = 0 }
 
 abbrev pub IsNewBlock : MemBlock → Type 0
-IsNewBlock block = (seen_of block ≡ blocks.began (seen_of block).device (content_of (seen_of block))) × (faults_of block ≡ 0)
+IsNewBlock block =
+    (seen_of block ≡ blocks.began (seen_of block).device (content_of (seen_of block)))
+    × (faults_of block ≡ 0)

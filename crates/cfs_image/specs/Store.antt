@@ -14,11 +14,14 @@ pub record IsSized (regions blocks : ℕ) : Type 0 where
   pub most : blocks ≤ 16384
 
 -- The regions and the blocks of a store, each in order, with the blocks' own numbers.
-pub record IsStore (regions : List (Seen WordStep)) (blocks : List (Seen BlockStep)) (numbers : List ℕ) : Type 0 where
+pub record IsStore (regions : List (Seen WordStep)) (blocks : List (Seen BlockStep))
+    (numbers : List ℕ) : Type 0 where
   pub sized : IsSized (length regions) (length blocks)
   -- the regions have the device numbers from 0 on, and each its size
   pub devices : map (λ seen. seen.device) regions ≡ range_with_len 0 (length regions)
-  pub sizes : map (λ seen. length (words_of seen)) regions ≡ map region_words (range_with_len 0 (length regions))
+  pub sizes : map (λ seen. length (words_of seen)) regions ≡
+      map region_words (range_with_len 0 (length regions))
   -- the blocks have the device numbers behind them, and their own from 0 on
-  pub block_devices : map (λ seen. seen.device) blocks ≡ range_with_len (length regions) (length blocks)
+  pub block_devices : map (λ seen. seen.device) blocks ≡
+      range_with_len (length regions) (length blocks)
   pub own_numbers : numbers ≡ range_with_len 0 (length blocks)

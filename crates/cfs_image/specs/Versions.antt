@@ -18,7 +18,8 @@ record_words_in Present = record_words
 abbrev pub journal_at_in : Version → ℕ → ℕ
 journal_at_in version position = table_at 2 + 8 * record_words_in version * position
 
--- how long the image of a store is: behind the journal stand 256 size words, 16 slots a queue, and the blocks
+-- how long the image of a store is: behind the journal stand 256 size words, 16 slots a queue, and
+-- the blocks
 abbrev pub image_len_in : Version → ℕ → ℕ → ℕ
 image_len_in version blocks queues =
     journal_at_in version 64 + 8 * 256 + 8 * slot_words * 16 * queues + block_room * blocks

@@ -10,10 +10,14 @@ use cfs_pmem::{MemRegion, Pick};
 
 /// Each region loses power, in order.
 pub(crate) fn crash_regions(regions: &mut Vec<MemRegion>, pick: &mut Pick)
-    ensures left { map (λ region. region.seen) regions.new.items ≡ regions_left pick.old (map (λ region. region.seen) regions.old.items) }
-    ensures pick { pick.new ≡ after_regions pick.old (map (λ region. region.seen) regions.old.items) }
-    ensures images { AreImages (map (λ region. region.seen) regions.old.items) (map (λ region. region.seen) regions.new.items) }
-    ensures faults { map (λ region. region.faults) regions.new.items ≡ map (λ region. region.faults) regions.old.items }
+    ensures left { map (λ region. region.seen) regions.new.items ≡
+        regions_left pick.old (map (λ region. region.seen) regions.old.items) }
+    ensures pick { pick.new ≡
+        after_regions pick.old (map (λ region. region.seen) regions.old.items) }
+    ensures images { AreImages (map (λ region. region.seen) regions.old.items)
+        (map (λ region. region.seen) regions.new.items) }
+    ensures faults { map (λ region. region.faults) regions.new.items ≡
+        map (λ region. region.faults) regions.old.items }
 {
     for region in regions.iter_mut() {
         region.crash(pick);
@@ -22,7 +26,8 @@ pub(crate) fn crash_regions(regions: &mut Vec<MemRegion>, pick: &mut Pick)
 
 /// Each block loses power, in order.
 pub(crate) fn crash_blocks(blocks: &mut Vec<MemBlock>, pick: &mut Pick)
-    ensures left { map seen_of blocks.new.items ≡ blocks_left pick.old (map seen_of blocks.old.items) }
+    ensures left { map seen_of blocks.new.items ≡
+        blocks_left pick.old (map seen_of blocks.old.items) }
     ensures pick { pick.new ≡ after_blocks pick.old (map seen_of blocks.old.items) }
     ensures images { AreBlockImages (map seen_of blocks.old.items) (map seen_of blocks.new.items) }
     ensures numbers { map number_of blocks.new.items ≡ map number_of blocks.old.items }
@@ -34,19 +39,28 @@ pub(crate) fn crash_blocks(blocks: &mut Vec<MemBlock>, pick: &mut Pick)
 }
 
 impl Medium<MemRegion, MemBlock> {
-    /// Loses power: each object is left with one image, as the pick says, in the order of device numbers, and that image is all that a later
-    /// crash may leave of it. The draws go on from object to object.
+    /// Loses power: each object is left with one image, as the pick says, in the order of device
+    /// numbers, and that image is all that a later crash may leave of it. The draws go on from
+    /// object to object.
     pub fn crash(&mut self, pick: &mut Pick)
         ensures regions { map (λ region. region.seen) self.new.regions.items
             ≡ regions_left pick.old (map (λ region. region.seen) self.old.regions.items) }
         ensures blocks { map seen_of self.new.blocks.items
-            ≡ blocks_left (after_regions pick.old (map (λ region. region.seen) self.old.regions.items)) (map seen_of self.old.blocks.items) }
+            ≡ blocks_left (after_regions pick.old
+            (map (λ region. region.seen) self.old.regions.items))
+            (map seen_of self.old.blocks.items) }
         ensures pick { pick.new
-            ≡ after_blocks (after_regions pick.old (map (λ region. region.seen) self.old.regions.items)) (map seen_of self.old.blocks.items) }
-        ensures images { AreImages (map (λ region. region.seen) self.old.regions.items) (map (λ region. region.seen) self.new.regions.items) }
-        ensures block_images { AreBlockImages (map seen_of self.old.blocks.items) (map seen_of self.new.blocks.items) }
-        ensures faults { map (λ region. region.faults) self.new.regions.items ≡ map (λ region. region.faults) self.old.regions.items }
-        ensures block_faults { map faults_of self.new.blocks.items ≡ map faults_of self.old.blocks.items }
+            ≡ after_blocks (after_regions pick.old
+            (map (λ region. region.seen) self.old.regions.items))
+            (map seen_of self.old.blocks.items) }
+        ensures images { AreImages (map (λ region. region.seen) self.old.regions.items)
+            (map (λ region. region.seen) self.new.regions.items) }
+        ensures block_images { AreBlockImages (map seen_of self.old.blocks.items)
+            (map seen_of self.new.blocks.items) }
+        ensures faults { map (λ region. region.faults) self.new.regions.items ≡
+            map (λ region. region.faults) self.old.regions.items }
+        ensures block_faults { map faults_of self.new.blocks.items ≡
+            map faults_of self.old.blocks.items }
     {
         crash_regions(&mut self.regions, pick);
         crash_blocks(&mut self.blocks, pick);

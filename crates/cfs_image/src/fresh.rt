@@ -10,11 +10,13 @@ use crate::write::push_words;
 use cfs_file::{Bytes, NoMemory};
 use std::alloc::Global;
 
-/// The next inode number, and the record of the root: inode 1, its own parent, a directory of mode 0777.
+/// The next inode number, and the record of the root: inode 1, its own parent, a directory of mode
+/// 0777.
 const NEW_TABLE: [u64; 5] = [2, 1, 1, 2, 0o777];
 
-/// The image of a store of 16 to 16,384 blocks and 1 to 64 queues that holds the root and nothing else: all words and bytes are zero but the
-/// header, the next inode number and the root's record (own).
+/// The image of a store of 16 to 16,384 blocks and 1 to 64 queues that holds the root and nothing
+/// else: all words and bytes are zero but the header, the next inode number and the root's record
+/// (own).
 pub fn new_image(alloc: Global, blocks: u32, queues: u32) -> Result<Bytes, NoMemory>
     requires fewest_blocks { FEWEST_BLOCKS ≤ blocks }
     requires most_blocks { blocks ≤ MOST_BLOCKS }

@@ -1,4 +1,5 @@
-//! Where the words and bytes of a store stand in its image, and which device has which number (own).
+//! Where the words and bytes of a store stand in its image, and which device has which number
+//! (own).
 //!
 //! | device | numbers | in words |
 //! |---|---|---|
@@ -82,7 +83,8 @@ pub fn region_at(device: u32) -> usize
     }
 }
 
-/// Where the tag of a block begins in the image of a store of so many queues. Its bytes stand behind it.
+/// Where the tag of a block begins in the image of a store of so many queues. Its bytes stand
+/// behind it.
 #[inline]
 pub fn block_at(queues: u32, block: u32) -> usize
     ensures { result ≡ block_at queues block }
@@ -90,7 +92,8 @@ pub fn block_at(queues: u32, block: u32) -> usize
     59_448 + 66_304 * queues as usize + 4104 * block as usize
 }
 
-/// The bytes of the device with this number in the image of a store of so many queues: an offset and a length.
+/// The bytes of the device with this number in the image of a store of so many queues: an offset
+/// and a length.
 #[inline]
 pub fn range_of(queues: u32, device: u32) -> (usize, usize)
     requires { queues ≤ MOST_QUEUES }

@@ -7,19 +7,22 @@ use crate::layout::FIRST_SLOT;
 use cfs_block::Block;
 use cfs_pmem::Region;
 
-/// The regions and the blocks of a store, each list in the order of device numbers: the selector, the two table copies, the 64 journal
-/// records, the 256 size words, 16 slots for each of 1 to 64 queues, and 16 to 16,384 blocks.
+/// The regions and the blocks of a store, each list in the order of device numbers: the selector,
+/// the two table copies, the 64 journal records, the 256 size words, 16 slots for each of 1 to 64
+/// queues, and 16 to 16,384 blocks.
 #[derive(Drop)]
 pub struct Medium<R: Region, B: Block> {
     pub regions: Vec<R>,
     pub blocks: Vec<B>,
-    pub ghost store: { IsStore (map R.seen regions.items) (map B.seen blocks.items) (map B.number blocks.items) },
+    pub ghost store: { IsStore (map R.seen regions.items) (map B.seen blocks.items)
+        (map B.number blocks.items) },
 }
 
 impl<R: Region, B: Block> Medium<R, B> {
     /// A store of these regions and blocks.
     pub fn new(regions: Vec<R>, blocks: Vec<B>) -> Medium<R, B>
-        requires { IsStore (map R.seen regions.items) (map B.seen blocks.items) (map B.number blocks.items) }
+        requires { IsStore (map R.seen regions.items) (map B.seen blocks.items)
+            (map B.number blocks.items) }
         ensures regions { result.regions ≡ regions }
         ensures blocks { result.blocks ≡ blocks }
     {

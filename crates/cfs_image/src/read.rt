@@ -24,7 +24,8 @@ use std::alloc::Global;
 fn read_region(alloc: Global, device: u32, bytes: &[u8]) -> Result<MemRegion, NoMemory>
     requires { length bytes.now ≡ 8 * region_words device }
     ensures words { IfOk result (λ region. words_bytes (regions.words_of region.seen) ≡ bytes.now) }
-    ensures size { IfOk result (λ region. length (regions.words_of region.seen) ≡ region_words device) }
+    ensures size { IfOk result
+        (λ region. length (regions.words_of region.seen) ≡ region_words device) }
     ensures device { IfOk result (λ region. region.seen.device ≡ device) }
     ensures fit { IfOk result (λ region. All IsWord (regions.words_of region.seen)) }
     ensures untouched { IfOk result IsNewRegion }
@@ -37,7 +38,8 @@ fn read_region(alloc: Global, device: u32, bytes: &[u8]) -> Result<MemRegion, No
 /// The block whose tag and bytes these bytes are.
 fn read_block(alloc: Global, device: u32, number: u32, bytes: &[u8]) -> Result<MemBlock, NoMemory>
     requires { length bytes.now ≡ 4104 }
-    ensures content { IfOk result (λ block. block_bytes (blocks.content_of (seen_of block)) ≡ bytes.now) }
+    ensures content { IfOk result
+        (λ block. block_bytes (blocks.content_of (seen_of block)) ≡ bytes.now) }
     ensures device { IfOk result (λ block. (seen_of block).device ≡ device) }
     ensures number { IfOk result (λ block. number_of block ≡ number) }
     ensures fit { IfOk result (λ block. IsWord (blocks.content_of (seen_of block)).tag) }
@@ -86,18 +88,24 @@ fn read_blocks(
 
 /// The store that an image holds, in one pass over its bytes.
 ///
-/// `Damaged` names the first check of its length and header that fails, and comes where one does (own). Each object is new: it keeps two
-/// copies of what it holds, and has no other image.
+/// `Damaged` names the first check of its length and header that fails, and comes where one does
+/// (own). Each object is new: it keeps two copies of what it holds, and has no other image.
 pub fn read_image(alloc: Global, bytes: &[u8]) -> Result<Medium<MemRegion, MemBlock>, ImageRefusal>
     ensures sound { OnOk result (IsSound bytes.now) }
-    ensures image { IfOk result (λ medium. image_of (words_in medium.regions.items) (contents_in medium.blocks.items) ≡ bytes.now) }
+    ensures image { IfOk result
+        (λ medium. image_of (words_in medium.regions.items) (contents_in medium.blocks.items) ≡
+        bytes.now) }
     ensures regions { IfOk result (λ medium. All IsNewRegion medium.regions.items) }
     ensures blocks { IfOk result (λ medium. All IsNewBlock medium.blocks.items) }
     // What a crash may leave of each object is what it holds now, and nothing else.
-    ensures sure { IfOk result (λ medium. All (λ region. regions.IsSure region.seen) medium.regions.items) }
-    ensures sure_blocks { IfOk result (λ medium. All (λ block. blocks.IsSureBlock (seen_of block)) medium.blocks.items) }
+    ensures sure { IfOk result
+        (λ medium. All (λ region. regions.IsSure region.seen) medium.regions.items) }
+    ensures sure_blocks { IfOk result
+        (λ medium. All (λ block. blocks.IsSureBlock (seen_of block)) medium.blocks.items) }
     // No other store has this image.
-    ensures tells { IfOk result (λ medium. IsToldBy bytes.now (words_in medium.regions.items) (contents_in medium.blocks.items)) }
+    ensures tells { IfOk result
+        (λ medium. IsToldBy bytes.now (words_in medium.regions.items)
+        (contents_in medium.blocks.items)) }
     ensures err { IfErr result (NamesDamage bytes.now) }
 {
     let size = check_header(bytes, Version::Present)?;

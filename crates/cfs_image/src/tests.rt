@@ -10,7 +10,8 @@ use cfs_pmem::{MemRegion, Meter, Pick, Region};
 use std::alloc::Global;
 use std::test::Fail;
 
-/// The words of a new image of 16 blocks and one queue that are not zero: the header, the next inode number, and the root's record.
+/// The words of a new image of 16 blocks and one queue that are not zero: the header, the next
+/// inode number, and the root's record.
 const NEW_WORDS: [(usize, u64); 9] = [
     (0, NAME),
     (8, 2),

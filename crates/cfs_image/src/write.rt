@@ -26,7 +26,8 @@ pub(crate) fn push_words(image: &mut Vec<u8>, words: &[u64]) -> Result<(), NoMem
 
 /// Writes the words of regions, one after another, behind the bytes that are there.
 fn push_regions(image: &mut Vec<u8>, regions: &[MemRegion]) -> Result<(), NoMemory>
-    ensures image { OnOk result (image.new.items ≡ image.old.items ++ flat_map words_bytes (words_in regions.now)) }
+    ensures image { OnOk result
+        (image.new.items ≡ image.old.items ++ flat_map words_bytes (words_in regions.now)) }
     ensures fit { OnOk result (All (λ words. All IsWord words) (words_in regions.now)) }
 {
     for region in regions {
@@ -37,7 +38,8 @@ fn push_regions(image: &mut Vec<u8>, regions: &[MemRegion]) -> Result<(), NoMemo
 
 /// Writes a tag and bytes for each block, one after another, behind the bytes that are there.
 fn push_blocks(image: &mut Vec<u8>, blocks: &[MemBlock]) -> Result<(), NoMemory>
-    ensures image { OnOk result (image.new.items ≡ image.old.items ++ flat_map block_bytes (contents_in blocks.now)) }
+    ensures image { OnOk result
+        (image.new.items ≡ image.old.items ++ flat_map block_bytes (contents_in blocks.now)) }
     ensures fit { OnOk result (All (λ content. IsWord content.tag) (contents_in blocks.now)) }
 {
     for block in blocks {
@@ -47,10 +49,14 @@ fn push_blocks(image: &mut Vec<u8>, blocks: &[MemBlock]) -> Result<(), NoMemory>
     Ok(())
 }
 
-/// The image of what a store holds now, in one pass over it: the header, the words of its regions, the tags and bytes of its blocks (own).
+/// The image of what a store holds now, in one pass over it: the header, the words of its regions,
+/// the tags and bytes of its blocks (own).
 pub fn write_image(alloc: Global, medium: &Medium<MemRegion, MemBlock>) -> Result<Bytes, NoMemory>
-    ensures image { IfOk result (λ image. image ≡ image_of (words_in medium.now.regions.items) (contents_in medium.now.blocks.items)) }
-    ensures held { OnOk result (AreHeld (words_in medium.now.regions.items) (contents_in medium.now.blocks.items)) }
+    ensures image { IfOk result
+        (λ image. image ≡ image_of (words_in medium.now.regions.items)
+        (contents_in medium.now.blocks.items)) }
+    ensures held { OnOk result
+        (AreHeld (words_in medium.now.regions.items) (contents_in medium.now.blocks.items)) }
     ensures sound { IfOk result (λ image. IsSound image) }
 {
     let queues = medium.queues();

@@ -32,5 +32,6 @@ TrimsShow =
     may core (events.Trim block true) ≡ true → length core.log + 2 ≤ n →
     world.blocks block ≡ Some seen →
     SetsTag obeys keeps 0 result asked_old seen asked_new new →
-    BlockLeads ino n block (after core (events.Trim block false)) (after core (events.Trim block true))
+    BlockLeads ino n block (after core (events.Trim block false))
+    (after core (events.Trim block true))
     (after core (events.Trim block false)) world new result asked_old asked_new

@@ -26,18 +26,26 @@ pub record Depicts (ino : ℕ) (store : Store) (core : Core) (image : Image) : T
   pub size_is : store.size ≡ image.size
   -- the image has one tag for each file block
   pub tags_are : length image.tags ≡ FILE_BLOCKS
-  -- where a tag of the image is set, a block is tagged for that file block, and where it is not, none is
-  pub tagged : (block : ℕ) → block < FILE_BLOCKS → get_or image.tags block false ≡ true → (at : ℕ) × IsFor ino block store.blocks at
-  pub is_set : (at block : ℕ) → block < FILE_BLOCKS → IsFor ino block store.blocks at → get_or image.tags block false ≡ true
+  -- where a tag of the image is set, a block is tagged for that file block, and where it is not,
+  -- none is
+  pub tagged : (block : ℕ) → block < FILE_BLOCKS → get_or image.tags block false ≡ true →
+      (at : ℕ) × IsFor ino block store.blocks at
+  pub is_set : (at block : ℕ) → block < FILE_BLOCKS → IsFor ino block store.blocks at →
+      get_or image.tags block false ≡ true
   -- no second block is tagged for it
-  pub alone : (first second block : ℕ) → block < FILE_BLOCKS → IsFor ino block store.blocks first → IsFor ino block store.blocks second →
+  pub alone : (first second block : ℕ) → block < FILE_BLOCKS → IsFor ino block store.blocks first →
+      IsFor ino block store.blocks second →
       first ≡ second
   -- its bytes are those of the image at its positions
-  pub bytes_are : (at block k : ℕ) → block < FILE_BLOCKS → IsFor ino block store.blocks at → k < BLOCK_LEN →
+  pub bytes_are : (at block k : ℕ) → block < FILE_BLOCKS → IsFor ino block store.blocks at →
+      k < BLOCK_LEN →
       get_or (content_at store.blocks at).bytes k 0 ≡ get_or image.bytes (BLOCK_LEN * block + k) 0
   -- each live slot holds a live entry of the image
-  pub live : (at : ℕ) (entry : ℕ × Request) → entry_at ino store.slots at ≡ Some entry → Contains (entries_of core image) entry
+  pub live : (at : ℕ) (entry : ℕ × Request) → entry_at ino store.slots at ≡ Some entry →
+      Contains (entries_of core image) entry
   -- each live entry of the image stands in a slot, and in no second one
-  pub held : (entry : ℕ × Request) → Contains (entries_of core image) entry → (at : ℕ) × (entry_at ino store.slots at ≡ Some entry)
-  pub once : (first second : ℕ) (entry : ℕ × Request) → entry_at ino store.slots first ≡ Some entry → entry_at ino store.slots second ≡ Some entry →
+  pub held : (entry : ℕ × Request) → Contains (entries_of core image) entry →
+      (at : ℕ) × (entry_at ino store.slots at ≡ Some entry)
+  pub once : (first second : ℕ) (entry : ℕ × Request) →
+      entry_at ino store.slots first ≡ Some entry → entry_at ino store.slots second ≡ Some entry →
       first ≡ second

@@ -27,22 +27,26 @@ use Rattle.cfs_medium.specs.Shows.{BlockFits, HasShape, ReadsAs, Recovers, Remai
 use Rattle.cfs_medium.specs.World.{AllRemains, Remains, World}
 use Rattle.cfs_medium.specs.WorldCalls.{AreShut, IsBare, WorldMoments, with_block, with_size, with_slots}
 
--- A store that depicts an image stores the file that the image stores. Where the gates of the image's live
--- entries rise, it recovers the file that the image recovers.
+-- A store that depicts an image stores the file that the image stores. Where the gates of the
+-- image's live entries rise, it recovers the file that the image recovers.
 abbrev pub DepictedStoresRecover : Type 0
 DepictedStoresRecover =
     (ino : ℕ) (store : Store) (core : Core) (image : Image) → Depicts ino store core image →
     (stored_file ino store ≡ stored image)
-    × (Rises 0 (map (λ e. e.place) (live_entries core image)) → recovered_file ino store ≡ recovered core image)
+    × (Rises 0 (map (λ e. e.place) (live_entries core image)) →
+    recovered_file ino store ≡ recovered core image)
 
--- After every run, a store that depicts an image of the core recovers the file after the log, and then the
--- request in doubt exactly where its gate is open.
+-- After every run, a store that depicts an image of the core recovers the file after the log, and
+-- then the request in doubt exactly where its gate is open.
 abbrev pub RunsAreRecovered : Type 0
 RunsAreRecovered =
-    (core : Core) (events : List Event) (image : Image) (ino : ℕ) (store : Store) → IsFresh core → IsRun core events →
-    is_image (after_all core events) image ≡ true → Depicts ino store (after_all core events) image →
+    (core : Core) (events : List Event) (image : Image) (ino : ℕ) (store : Store) → IsFresh core →
+    IsRun core events →
+    is_image (after_all core events) image ≡ true →
+    Depicts ino store (after_all core events) image →
     recovered_file ino store ≡
-    file_of (after_all core events).base ((after_all core events).log ++ in_doubt (after_all core events).doubt image.doubt)
+    file_of (after_all core events).base
+    ((after_all core events).log ++ in_doubt (after_all core events).doubt image.doubt)
 
 -- the slot at a place is no tail of a live entry of the inode
 abbrev pub IsNoTail : ℕ → List (List ℕ) → ℕ → Type 0
@@ -50,8 +54,8 @@ IsNoTail ino slots at =
     (head number : ℕ) → is_live ino (get_or slots head []) ≡ true →
     Contains (numbers_in (tails_of (get_or slots head []))) number → head / 16 * 16 + number ≢ at
 
--- A slot that is no live entry of the inode, and no tail of one, may come to hold any other words that
--- are no live entry of it.
+-- A slot that is no live entry of the inode, and no tail of one, may come to hold any other words
+-- that are no live entry of it.
 abbrev pub SlotsOfOthersStay : Type 0
 SlotsOfOthersStay =
     (ino at : ℕ) (slots : List (List ℕ)) (words : List ℕ) →
@@ -65,19 +69,24 @@ IsOfOthers ino tag = (block : ℕ) → block < FILE_BLOCKS → tag ≢ tag_of in
 -- A block that is not the inode's may come to hold anything that is not the inode's.
 abbrev pub BlocksOfOthersStay : Type 0
 BlocksOfOthersStay =
-    (ino at : ℕ) (store : Store) (content : Content) → IsOfOthers ino (content_at store.blocks at).tag → IsOfOthers ino content.tag →
+    (ino at : ℕ) (store : Store) (content : Content) →
+    IsOfOthers ino (content_at store.blocks at).tag → IsOfOthers ino content.tag →
     stored_file ino (record store { blocks = set store.blocks at content }) ≡ stored_file ino store
 
 -- A block that is tagged for another inode, or free, is not the inode's.
 abbrev pub TagsAreApart : Type 0
 TagsAreApart =
-    (ino : ℕ) → IsOfOthers ino 0 × ((other block : ℕ) → other ≢ ino → block < FILE_BLOCKS → IsOfOthers ino (tag_of other block))
+    (ino : ℕ) → IsOfOthers ino 0 ×
+    ((other block : ℕ) → other ≢ ino → block < FILE_BLOCKS → IsOfOthers ino (tag_of other block))
 
--- A store whose size word is 0, with no block and no live slot of the inode, depicts every image of the empty core.
+-- A store whose size word is 0, with no block and no live slot of the inode, depicts every image of
+-- the empty core.
 abbrev pub EmptyStoresDepict : Type 0
 EmptyStoresDepict =
-    (ino : ℕ) (store : Store) (core : Core) (image : Image) → IsEmpty core → is_image core image ≡ true → store.size ≡ 0 →
-    ((at : ℕ) → entry_at ino store.slots at ≡ None) → ((at : ℕ) → IsOfOthers ino (content_at store.blocks at).tag) →
+    (ino : ℕ) (store : Store) (core : Core) (image : Image) → IsEmpty core →
+    is_image core image ≡ true → store.size ≡ 0 →
+    ((at : ℕ) → entry_at ino store.slots at ≡ None) →
+    ((at : ℕ) → IsOfOthers ino (content_at store.blocks at).tag) →
     Depicts ino store core image
 
 -- What fits a good core recovers its file: the one after the log, and then the request in doubt
@@ -94,8 +103,8 @@ ShownWorldsRecover =
     length core.log + 2 ≤ n → AllRemains world (Recovers ino n core)
 
 -- The head of the slots at a number has a word set, and each image of them fits another core, which
--- differs from the one that the devices show at this number alone. Then whatever a crash leaves at any
--- moment recovers the other core's file, and behind the call the devices show it.
+-- differs from the one that the devices show at this number alone. Then whatever a crash leaves at
+-- any moment recovers the other core's file, and behind the call the devices show it.
 abbrev pub HeadsMayBeSet : Type 0
 HeadsMayBeSet =
     (ino n place at word : ℕ) (core now : Core) (world : World) (head new : Seen WordStep)
@@ -103,12 +112,15 @@ HeadsMayBeSet =
     world.slots place ≡ head ∷ tails → DiffersAt place core now → IsGood now → HasShape now →
     length now.log + 2 ≤ n →
     ((image : List ℕ) (rest : List (List ℕ)) → IsSetFrom head at word image →
-    IsEachImage IsImage tails rest → SlotFits ino place (holding now now.doubt place) (image ∷ rest)) →
+    IsEachImage IsImage tails rest →
+    SlotFits ino place (holding now now.doubt place) (image ∷ rest)) →
     Moments IsImage (IsSetFrom head at word) asked_old head asked_new new →
-    WorldMoments (Recovers ino n now) asked_old world asked_new (with_slots place (new ∷ tails) world)
+    WorldMoments (Recovers ino n now) asked_old world asked_new
+    (with_slots place (new ∷ tails) world)
     × Shows ino now (with_slots place (new ∷ tails) world)
 
--- So a gate that may be open or closed may be closed, whether that fails or not: the core is the same.
+-- So a gate that may be open or closed may be closed, whether that fails or not: the core is the
+-- same.
 abbrev pub GatesMayClose : Type 0
 GatesMayClose =
     (ino n place : ℕ) (core : Core) (world : World) (head new : Seen WordStep)
@@ -116,7 +128,8 @@ GatesMayClose =
     world.slots place ≡ head ∷ tails → IsGood core → length core.log + 2 ≤ n →
     (holding core core.doubt place).gate ≡ Unsure →
     Moments IsImage (IsSetFrom head 0 0) asked_old head asked_new new →
-    WorldMoments (Recovers ino n core) asked_old world asked_new (with_slots place (new ∷ tails) world)
+    WorldMoments (Recovers ino n core) asked_old world asked_new
+    (with_slots place (new ∷ tails) world)
     × Shows ino core (with_slots place (new ∷ tails) world)
 
 -- Slots whose gate is closed in every image show a core that knows it closed.
@@ -127,11 +140,13 @@ ShutSlotsShow =
     (holding now now.doubt place).gate ≡ Off → Shows ino now world
 
 -- The block of a file block has its tag set, bytes written or is flushed, and each image of it fits
--- another core, which differs from the one that the devices show at this block alone. Then whatever a
--- crash leaves at any moment recovers the other core's file, and behind the call the devices show it.
+-- another core, which differs from the one that the devices show at this block alone. Then whatever
+-- a crash leaves at any moment recovers the other core's file, and behind the call the devices show
+-- it.
 abbrev pub BlocksMayChange : Type 0
 BlocksMayChange =
-    (ino n block : ℕ) (call : BlockCall) (core now : Core) (world : World) (seen new : Seen BlockStep)
+    (ino n block : ℕ) (call : BlockCall) (core now : Core) (world : World)
+    (seen new : Seen BlockStep)
     (asked_old asked_new : List Asked) → Shows ino core world → world.blocks block ≡ Some seen →
     DiffersIn block core now → IsGood now → HasShape now → length now.log + 2 ≤ n →
     ((content : Content) → MayBe call seen content →
@@ -145,7 +160,8 @@ BlocksMayChange =
 abbrev pub SizesMayBeSet : Type 0
 SizesMayBeSet =
     (ino n word : ℕ) (core now : Core) (world : World) (new : Seen WordStep)
-    (asked_old asked_new : List Asked) → Shows ino core world → DiffersInSize core now → IsGood now →
+    (asked_old asked_new : List Asked) → Shows ino core world → DiffersInSize core now →
+    IsGood now →
     HasShape now → length now.log + 2 ≤ n →
     ((words : List ℕ) → IsSetFrom world.size 0 word words → is_size now (get_or words 0 0) ≡ true) →
     get_or (words_of new) 0 0 ≡ now.size →
@@ -153,10 +169,12 @@ SizesMayBeSet =
     WorldMoments (Recovers ino n now) asked_old world asked_new (with_size new world)
     × Shows ino now (with_size new world)
 
--- Slots that no image has open may be taken away, and others may come in their place, without a step.
+-- Slots that no image has open may be taken away, and others may come in their place, without a
+-- step.
 abbrev pub SlotsMayCome : Type 0
 SlotsMayCome =
-    (ino n place : ℕ) (core : Core) (world : World) (seens : List (Seen WordStep)) (asked : List Asked) →
+    (ino n place : ℕ) (core : Core) (world : World) (seens : List (Seen WordStep))
+    (asked : List Asked) →
     Shows ino core world → AreShut (world.slots place) → AreShut seens → IsGood core →
     length core.log + 2 ≤ n → can_be (holding core core.doubt place).gate false ≡ true →
     WorldMoments (Recovers ino n core) asked world asked (with_slots place seens world)

@@ -55,8 +55,8 @@ holding core (Some doubt) place =
 abbrev pub is_gated : List ℕ → Bool
 is_gated words = not (gate_of words == 0)
 
--- The gate is open only where it may be. Then it has its number, the slots hold the request, and the
--- mark is set only where it may be. A closed slot may hold anything.
+-- The gate is open only where it may be. Then it has its number, the slots hold the request, and
+-- the mark is set only where it may be. A closed slot may hold anything.
 pub record SlotFits (ino place : ℕ) (held : Holding) (slots : List (List ℕ)) : Type 0 where
   pub gate : can_be held.gate (is_gated (head_words slots)) ≡ true
   pub number : is_gated (head_words slots) ≡ true → gate_of (head_words slots) ≡ place
@@ -100,14 +100,15 @@ pub record BlockShown (ino block : ℕ) (tag : Flag) (loose : List Stretch) (byt
 
 -- ---- the whole
 
--- the request in doubt has the number of a place of the log, or the next one, and there no slot of a
--- logged request is open
+-- the request in doubt has the number of a place of the log, or the next one, and there no slot of
+-- a logged request is open
 pub record DoubtFits (core : Core) (doubt : Doubt) : Type 0 where
   pub from : 1 ≤ doubt.entry.place
   pub to : doubt.entry.place ≤ length core.log + 1
   pub apart : (track core.tracks doubt.entry.place).gate ≡ Off
 
--- the lengths of a core's lists, its request in doubt, and its loose positions, which are of its bytes
+-- the lengths of a core's lists, its request in doubt, and its loose positions, which are of its
+-- bytes
 pub record HasShape (core : Core) : Type 0 where
   pub tags : length core.tags ≡ FILE_BLOCKS
   pub tracks : length core.tracks ≡ length core.log

@@ -28,8 +28,9 @@ Answer = Result (Unit {0}) (Unit {0})
 abbrev pub IsBesideDoubt : Core → ℕ → Type 0
 IsBesideDoubt core place = (doubt : Doubt) → core.doubt ≡ Some doubt → doubt.entry.place ≢ place
 
--- A call set a word of the head of the slots at a number. At each moment what is left recovers the file
--- of `during`; behind it the devices show `kept` where it went well, and `failed` where it did not.
+-- A call set a word of the head of the slots at a number. At each moment what is left recovers the
+-- file of `during`; behind it the devices show `kept` where it went well, and `failed` where it did
+-- not.
 pub record Leads (ino n place : ℕ) (during kept failed : Core) (world : World) (new : Seen WordStep)
     (tails : List (Seen WordStep)) (result : Answer)
     (asked_old asked_new : List Asked) : Type 0 where
@@ -42,12 +43,15 @@ pub record Leads (ino n place : ℕ) (during kept failed : Core) (world : World)
 abbrev pub SkipsShow : Type 0
 SkipsShow =
     (ino n place : ℕ) (core : Core) (world : World) (head new : Seen WordStep)
-    (tails : List (Seen WordStep)) (obeys : Bool) (result : Answer) (asked_old asked_new : List Asked) →
-    IsGood core → Shows ino core world → may core (events.Skip place) ≡ true → IsBesideDoubt core place →
+    (tails : List (Seen WordStep)) (obeys : Bool) (result : Answer)
+    (asked_old asked_new : List Asked) →
+    IsGood core → Shows ino core world → may core (events.Skip place) ≡ true →
+    IsBesideDoubt core place →
     (track core.tracks place).gate ≡ Unsure → length core.log + 2 ≤ n →
     world.slots place ≡ head ∷ tails →
     SetsWord obeys 0 0 result asked_old head asked_new new →
-    Leads ino n place core (after core (events.Skip place)) core world new tails result asked_old asked_new
+    Leads ino n place core (after core (events.Skip place)) core world new tails result asked_old
+    asked_new
 
 -- the gate of the request in doubt is closed
 abbrev pub SettlesShow : Type 0
@@ -62,7 +66,8 @@ SettlesShow =
     asked_old asked_new
 
 -- each image of the slots holds the request, closed and not marked
-pub record IsStagedAs (ino : ℕ) (request : Request) (head : List ℕ) (tails : List (List ℕ)) : Type 0 where
+pub record IsStagedAs (ino : ℕ) (request : Request) (head : List ℕ)
+    (tails : List (List ℕ)) : Type 0 where
   pub gate : gate_of head ≡ 0
   pub mark : mark_of head ≡ 0
   pub file : ino_of head ≡ ino
@@ -92,10 +97,13 @@ AdmissionsShow =
 abbrev pub MarksShow : Type 0
 MarksShow =
     (ino n place by : ℕ) (core : Core) (world : World) (head new : Seen WordStep)
-    (tails : List (Seen WordStep)) (obeys : Bool) (result : Answer) (asked_old asked_new : List Asked) →
+    (tails : List (Seen WordStep)) (obeys : Bool) (result : Answer)
+    (asked_old asked_new : List Asked) →
     IsGood (after core (events.Mark place by false)) → Shows ino core world →
-    may core (events.Mark place by true) ≡ true → IsBesideDoubt core place → length core.log + 2 ≤ n →
+    may core (events.Mark place by true) ≡ true → IsBesideDoubt core place →
+    length core.log + 2 ≤ n →
     world.slots place ≡ head ∷ tails → 1 < length (words_of head) →
     SetsWord obeys 1 1 result asked_old head asked_new new →
-    Leads ino n place (after core (events.Mark place by false)) (after core (events.Mark place by true))
+    Leads ino n place (after core (events.Mark place by false))
+    (after core (events.Mark place by true))
     (after core (events.Mark place by false)) world new tails result asked_old asked_new

@@ -8,7 +8,8 @@ use Rattle.cfs_slot.specs.Words.{live_entry}
 use Rattle.cfs_slot.specs.Tails.{tails_at}
 use Rattle.cfs_block.specs.BlockImages.{Content}
 
--- the inode's size word, the words of every slot and the content of every block, both in device order
+-- the inode's size word, the words of every slot and the content of every block, both in device
+-- order
 pub record Store : Type 0 where
   pub size : ℕ
   pub slots : List (List ℕ)
@@ -18,9 +19,12 @@ pub record Store : Type 0 where
 abbrev pub tag_of : ℕ → ℕ → ℕ
 tag_of ino block = ino * 65536 + block + 1
 
--- the block that is tagged for a file block of the inode: the first one in device order, and none past the longest file
+-- the block that is tagged for a file block of the inode: the first one in device order, and none
+-- past the longest file
 abbrev pub block_for : ℕ → ℕ → List Content → Option Content
-block_for ino block blocks = if nat_lt block FILE_BLOCKS then find (λ content. content.tag == tag_of ino block) blocks else None
+block_for ino block blocks =
+    if nat_lt block FILE_BLOCKS then find (λ content. content.tag == tag_of ino block) blocks
+    else None
 
 -- the byte of a block, or 0 where there is none
 abbrev pub byte_of : Option Content → ℕ → ℕ
@@ -29,7 +33,8 @@ byte_of (Some content) k = get_or content.bytes k 0
 
 -- the byte of the block that is tagged for the position, or 0
 abbrev pub byte_in : ℕ → List Content → ℕ → ℕ
-byte_in ino blocks position = byte_of (block_for ino (position / BLOCK_LEN) blocks) (position % BLOCK_LEN)
+byte_in ino blocks position =
+    byte_of (block_for ino (position / BLOCK_LEN) blocks) (position % BLOCK_LEN)
 
 -- the stored file: as long as the size word
 abbrev pub stored_file : ℕ → Store → List ℕ

@@ -9,8 +9,8 @@ use Rattle.cfs_block.specs.BlockImages.{BlockStep, Content, IsBlockImage}
 use Rattle.cfs_slot.specs.Words.{live_entry}
 use Rattle.cfs_medium.specs.Store.{by_gate, stored_file, taken_through}
 
--- The region of the size word; the slots of each request, the head first, by the number in its gate;
--- and of each file block the block that is mapped there.
+-- The region of the size word; the slots of each request, the head first, by the number in its
+-- gate; and of each file block the block that is mapped there.
 pub record World : Type 0 where
   pub size : Seen WordStep
   pub slots : ℕ → List (Seen WordStep)

@@ -1,9 +1,9 @@
 //! What the words and bytes of a store say of one inode.
 //!
 //! `specs/Store.antt` says which file a store keeps for an inode, stored and recovered;
-//! `specs/Depicts.antt` when a store is an image of a core. `recover` is the plain and slow program of
-//! these definitions; the other functions are laws: they do nothing, and their contracts hold of all
-//! stores.
+//! `specs/Depicts.antt` when a store is an image of a core. `recover` is the plain and slow program
+//! of these definitions; the other functions are laws: they do nothing, and their contracts hold of
+//! all stores.
 #![tactic(auto)]
 
 mod recovery;
@@ -19,8 +19,8 @@ pub fn depicted_stores_recover()
     ensures { DepictedStoresRecover }
 {}
 
-/// After every run, a store that depicts an image of the core recovers the file after the log, and then
-/// the request in doubt exactly where its gate is open.
+/// After every run, a store that depicts an image of the core recovers the file after the log, and
+/// then the request in doubt exactly where its gate is open.
 pub fn runs_are_recovered()
     ensures { RunsAreRecovered }
 {}
@@ -40,8 +40,8 @@ pub fn tags_are_apart()
     ensures { TagsAreApart }
 {}
 
-/// What fits a good core recovers the file after its log, and then the request in doubt exactly where
-/// its gate was left open.
+/// What fits a good core recovers the file after its log, and then the request in doubt exactly
+/// where its gate was left open.
 pub fn fitting_remains_recover()
     ensures { FittingRemainsRecover }
 {}
@@ -51,9 +51,9 @@ pub fn shown_worlds_recover()
     ensures { ShownWorldsRecover }
 {}
 
-/// The head of the slots at a number may have a word set, where each image of them fits another core:
-/// whatever a crash leaves at any moment recovers that core's file, and behind the call the devices
-/// show it.
+/// The head of the slots at a number may have a word set, where each image of them fits another
+/// core: whatever a crash leaves at any moment recovers that core's file, and behind the call the
+/// devices show it.
 pub fn heads_may_be_set()
     ensures { HeadsMayBeSet }
 {}
@@ -68,8 +68,8 @@ pub fn shut_slots_show()
     ensures { ShutSlotsShow }
 {}
 
-/// The block of a file block may have its tag set, bytes written or be flushed, where each image of it
-/// fits another core: the same holds then.
+/// The block of a file block may have its tag set, bytes written or be flushed, where each image of
+/// it fits another core: the same holds then.
 pub fn blocks_may_change()
     ensures { BlocksMayChange }
 {}
@@ -99,7 +99,8 @@ pub fn settles_show()
     ensures { SettlesShow }
 {}
 
-/// The gate of a change may be opened with the next place, and the devices show it admitted, or in doubt.
+/// The gate of a change may be opened with the next place, and the devices show it admitted, or in
+/// doubt.
 pub fn admissions_show()
     ensures { AdmissionsShow }
 {}

@@ -144,7 +144,8 @@ fn push_tail(
 /// Appends the bytes of the tails of the head at a place.
 fn push_tails(bytes: &mut Vec<u8>, slots: &[Items<u64>], at: usize) -> Result<(), NoMemory>
     requires { at < length slots.now }
-    ensures { OnOk result (bytes.new.items ≡ bytes.old.items ++ flat_map area_of (tails_at slots.now at)) }
+    ensures { OnOk result
+        (bytes.new.items ≡ bytes.old.items ++ flat_map area_of (tails_at slots.now at)) }
 {
     let first = at / QUEUE_SLOTS * QUEUE_SLOTS;
     let mut tails = word_at(slots[at].as_slice(), KIND) / TAILS_UNIT;
@@ -157,7 +158,8 @@ fn push_tails(bytes: &mut Vec<u8>, slots: &[Items<u64>], at: usize) -> Result<()
 
 fn payload(alloc: Global, slots: &[Items<u64>], at: usize) -> Result<Bytes, NoMemory>
     requires { at < length slots.now }
-    ensures { IfOk result (λ bytes. bytes ≡ payload_of (get_or slots.now at []) (tails_at slots.now at)) }
+    ensures { IfOk result
+        (λ bytes. bytes ≡ payload_of (get_or slots.now at []) (tails_at slots.now at)) }
 {
     let words = slots[at].as_slice();
     let mut bytes = Vec::new(alloc);
@@ -170,7 +172,8 @@ fn payload(alloc: Global, slots: &[Items<u64>], at: usize) -> Result<Bytes, NoMe
 /// The request that the slot at a place stands for, with its tails.
 fn request_at(alloc: Global, slots: &[Items<u64>], at: usize) -> Result<Request, NoMemory>
     requires { at < length slots.now }
-    ensures { IfOk result (λ request. request ≡ request_of (get_or slots.now at []) (tails_at slots.now at)) }
+    ensures { IfOk result
+        (λ request. request ≡ request_of (get_or slots.now at []) (tails_at slots.now at)) }
 {
     let words = slots[at].as_slice();
     if kind(words) == TRUNCATE {
@@ -242,8 +245,9 @@ fn take_through(file: &mut Bytes, entries: &[(u64, Request)]) -> Result<(), NoMe
 }
 
 /// The file that a mount finds for an inode: its stored file, taken through the live entries of the
-/// slots in order of their gates. `size` is its size word in bytes; slots and blocks are all those of
-/// the store, in device order. An `Err` is want of memory. Slow: it looks at every block for each byte.
+/// slots in order of their gates. `size` is its size word in bytes; slots and blocks are all those
+/// of the store, in device order. An `Err` is want of memory. Slow: it looks at every block for
+/// each byte.
 pub fn recover(
     alloc: Global,
     ino: u64,

@@ -129,8 +129,8 @@ fn a_file_goes_on_in_its_next_block(rt: HostRuntime) -> Result<(), Fail> {
     Ok(())
 }
 
-// The head stands in slot 2 of queue 1, its tails in slots 4 and 9 of the same queue; slot 4 of queue 0 is
-// none of them. Slots of two words of payload stand for those of 512.
+// The head stands in slot 2 of queue 1, its tails in slots 4 and 9 of the same queue; slot 4 of
+// queue 0 is none of them. Slots of two words of payload stand for those of 512.
 #[test]
 fn a_long_write_is_read_from_its_head_and_its_tails(rt: HostRuntime) -> Result<(), Fail> {
     let alloc = rt.alloc();
