@@ -12,6 +12,3 @@ mod table;
 pub use checkpoint::Checkpoint;
 pub use laws::{crashes_in_a_store, crashes_load_stores, stores_take_steps};
 pub use table::TABLE_WORDS;
-
-#[cfg(test)]
-mod tests;

@@ -38,6 +38,3 @@ pub use refusal::TreeRefusal;
 pub use rules::{DEEPEST, path_refusal, paths_refusal};
 pub use tree::{INODE_END, RECORDS, Tree};
 pub use words::{NODE_WORDS, node_words};
-
-#[cfg(test)]
-mod tests;

@@ -9,8 +9,6 @@
 mod append_refusal;
 mod journal;
 mod record;
-#[cfg(test)]
-mod tests;
 
 pub use append_refusal::AppendRefusal;
 pub use journal::{Journal, PLACES};

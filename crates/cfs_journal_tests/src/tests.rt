@@ -2,8 +2,8 @@ ghost use Rattle.std.specs.Prelude.{◌≡◌, IfOk, length};
 ghost use Rattle.cfs_dir.specs.Change.{IsTellable};
 ghost use Rattle.cfs_journal.specs.Journals.{changes_of};
 
-use crate::{AppendRefusal, GATE, Journal, PLACES, RECORD_WORDS};
 use cfs_dir::Change;
+use cfs_journal::{AppendRefusal, GATE, Journal, PLACES, RECORD_WORDS};
 use cfs_pmem::{MemRegion, Meter, Pick};
 use std::alloc::{AllocError, Global};
 use std::process::Abort;

@@ -1,7 +1,7 @@
 use Rattle.std.proofs.Common.{ℕ, refl}
 use Rattle.std.proofs.lemmas.List.{length-replicate}
 use Rattle.cfs_ckpt.proofs.Fresh.{fresh_regions}
-use Rattle.cfs_ckpt.proofs.tests.blank.Goals as goal
+use Rattle.cfs_ckpt_tests.proofs.tests.blank.Goals as goal
 
 pub blank-requires : goal.blank-requires
 blank-requires c =

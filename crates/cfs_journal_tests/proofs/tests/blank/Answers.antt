@@ -4,7 +4,7 @@ use Rattle.cfs_pmem.specs.declared.mem_region.MemRegion.{MemRegion}
 use Rattle.cfs_pmem.specs.Images.{Seen, WordStep, began}
 use Rattle.cfs_journal.specs.Standing.{AreBlank}
 use Rattle.cfs_journal.proofs.Blanks.{blanks, blanks_are_blank, blanks_more, blanks_none}
-use Rattle.cfs_journal.proofs.tests.blank.Goals as goal
+use Rattle.cfs_journal_tests.proofs.tests.blank.Goals as goal
 
 pub loop-device-init : goal.loop-device-init
 loop-device-init c = (ap (λ (xs : List MemRegion). map (λ (r : MemRegion). r.seen) xs) c.in_ok-records.ensures.items ∙ blanks_none, omega arith)

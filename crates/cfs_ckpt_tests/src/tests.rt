@@ -1,7 +1,7 @@
 ghost use Rattle.std.specs.Prelude.{◌≡◌, ◌<◌, ◌^◌, IfOk, replicate};
 ghost use Rattle.cfs_pmem.specs.Images.{began};
 
-use crate::{Checkpoint, TABLE_WORDS};
+use cfs_ckpt::{Checkpoint, TABLE_WORDS};
 use cfs_dir::Tree;
 use cfs_pmem::{MemRegion, Meter, Pick};
 use std::alloc::{AllocError, Global};

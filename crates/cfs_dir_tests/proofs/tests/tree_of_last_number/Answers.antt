@@ -3,7 +3,7 @@ use Rattle.cfs_dir.specs.declared.kind.Kind.TheVariants.{Directory}
 use Rattle.cfs_dir.specs.declared.node.Node.{Node}
 use Rattle.cfs_dir.specs.Tree.{IsTree}
 use Rattle.cfs_dir.proofs.Listed.{IsTree-root}
-use Rattle.cfs_dir.proofs.tests.tree_of_last_number.Goals as goal
+use Rattle.cfs_dir_tests.proofs.tests.tree_of_last_number.Goals as goal
 
 pub new-requires : goal.new-requires
 new-requires c =

@@ -1,6 +1,6 @@
 use Rattle.std.proofs.Common.{◌≡◌, ◌≤◌, map}
 use Rattle.cfs_journal.proofs.Blanks.{blanks}
-use Rattle.cfs_journal.proofs.tests.blank.Given as goal
+use Rattle.cfs_journal_tests.proofs.tests.blank.Given as goal
 
 abbrev pub invariant-loop-device : goal.invariant-loop-device
 invariant-loop-device l = (map (λ region. region.seen) l.records.items ≡ blanks l.device) × (l.device ≤ 64)

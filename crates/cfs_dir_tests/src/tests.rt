@@ -2,12 +2,12 @@ ghost use Rattle.std.specs.Prelude.{◌≡◌, ◌<◌, None};
 ghost use Rattle.std.specs.Option.{ForSome};
 ghost use Rattle.cfs_dir.specs.Namespace.{node_at};
 
-use crate::{
+use cfs_cred::Credential;
+use cfs_dir::{
     CHANGE_WORDS, Change, DEEPEST, INODE_END, Kind, LONGEST_COMPONENT, LONGEST_NAME, MOST_NAMES,
     NODE_WORDS, Name, Node, Path, Posix, RECORDS, Tree, TreeRefusal, changes_are_told, node_words,
     nodes_are_told, tables_are_told,
 };
-use cfs_cred::Credential;
 use std::alloc::{AllocError, Global};
 use std::process::Abort;
 use std::test::Fail;
