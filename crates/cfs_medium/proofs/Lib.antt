@@ -16,3 +16,7 @@ pub mod BlockSteps
 pub mod SizeSteps
 pub mod SlotEvents
 pub mod BlockEvents
+pub mod QuietEvents
+pub mod ReadEvents
+pub mod FlushEvents
+pub mod WriteEvents

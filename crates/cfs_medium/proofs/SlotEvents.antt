@@ -76,7 +76,7 @@ track-shape core place t some shape beside = record {
 }
 
 -- the track at the place itself
-track-here : (core : Core) (place : ℕ) (t : Track) → (place ≡ 0 → ⊥) → place ≤ length core.tracks →
+pub track-here : (core : Core) (place : ℕ) (t : Track) → (place ≡ 0 → ⊥) → place ≤ length core.tracks →
     track (with_track core place t).tracks place ≡ t
 track-here core place t some within =
     track_is (with_track core place t).tracks place (place - 1) some refl
@@ -93,7 +93,7 @@ holding-logged core (Some d) place beside =
     rw test refl
 
 -- where a state passes that of no request, the place is one of the tracks'
-within_place : (test : State → Bool) → test Closed ≡ false → (tracks : List Track) (place : ℕ) →
+pub within_place : (test : State → Bool) → test Closed ≡ false → (tracks : List Track) (place : ℕ) →
     (place ≡ 0 → ⊥) → test (track tracks place).state ≡ true → place ≤ length tracks
 within_place test closed tracks place some passes = elim (cases_lt (length tracks) place) [
   | inl past ↦
@@ -412,7 +412,7 @@ get-last : {X : Type 0} → (xs : List X) (x d : X) → get_or (xs ++ x ∷ []) 
 get-last [] x d = refl
 get-last (y ∷ ys) x d = get-last ys x d
 
-entry-other : (log : List Entry) (entry : Entry) (at : ℕ) → at ≢ length log + 1 →
+pub entry-other : (log : List Entry) (entry : Entry) (at : ℕ) → at ≢ length log + 1 →
     entry_of (log ++ entry ∷ []) at ≡ entry_of log at
 entry-other log entry at other = test (at == 0) refl
   where
@@ -425,7 +425,7 @@ entry-other log entry at other = test (at == 0) refl
         let some : at ≢ 0 = λ same. zero_no same is in
         rw is (slice-other log entry (at - 1) (λ same. other (omega (arith, same, some))))
 
-track-other : (tracks : List Track) (t : Track) (at : ℕ) → at ≢ length tracks + 1 →
+pub track-other : (tracks : List Track) (t : Track) (at : ℕ) → at ≢ length tracks + 1 →
     track (tracks ++ t ∷ []) at ≡ track tracks at
 track-other tracks t at other = elim (same_or_not at 0) [
   | inl same ↦ rw same refl

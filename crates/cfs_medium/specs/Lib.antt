@@ -9,3 +9,4 @@ pub mod BlockCalls
 pub mod Laws
 pub mod SlotEvents
 pub mod BlockEvents
+pub mod QuietEvents

@@ -9,7 +9,8 @@
 mod recovery;
 
 ghost use Rattle.cfs_medium.specs.Laws.{BlocksMayChange, BlocksMayCome, BlocksOfOthersStay, DepictedStoresRecover, EmptyStoresDepict, FittingRemainsRecover, GatesMayClose, HeadsMayBeSet, RunsAreRecovered, ShownWorldsRecover, ShutSlotsShow, SizesMayBeSet, SlotsMayCome, SlotsOfOthersStay, TagsAreApart};
-ghost use Rattle.cfs_medium.specs.BlockEvents.{TrimsShow};
+ghost use Rattle.cfs_medium.specs.QuietEvents.{QuietEventsShow, ReadsMayCome};
+ghost use Rattle.cfs_medium.specs.BlockEvents.{FlushesShow, TrimsShow, WritesShow};
 ghost use Rattle.cfs_medium.specs.SlotEvents.{AdmissionsShow, MarksShow, SettlesShow, SkipsShow};
 
 pub use recovery::{BlockFound, recover};
@@ -113,6 +114,27 @@ pub fn marks_show()
 /// A block past the stored size may be given up, and the devices show it free, or that it may be.
 pub fn trims_show()
     ensures { TrimsShow }
+{}
+
+/// A read may be served, a job given out, and one come back for the blocks that are left: the devices
+/// show it without a step.
+pub fn quiet_events_show()
+    ensures { QuietEventsShow }
+{}
+
+/// And so may a read or sync come.
+pub fn reads_may_come()
+    ensures { ReadsMayCome }
+{}
+
+/// What a job wrote into a block may be flushed, and the devices show it durable, or as it was.
+pub fn flushes_show()
+    ensures { FlushesShow }
+{}
+
+/// A job may write into a block, or fail to, and the devices show its bytes there, not yet durable.
+pub fn writes_show()
+    ensures { WritesShow }
 {}
 
 /// A store that has nothing of an inode depicts the core of an empty file.
