@@ -38,7 +38,8 @@ fn blank_journal(alloc: Global) -> Result<Journal<MemRegion>, AllocError>
     for device in 0..64 {
         records.push(zeros(alloc, device, 16)?)?;
     }
-    Journal::blank(alloc, records)
+    let journal = Journal::blank(alloc, records)?;
+    Ok(journal)
 }
 
 /// A checkpoint on zeros: the devices 64 to 66.
