@@ -40,8 +40,10 @@ beside : (word first second : List ℕ) → AreDistinct (all_devices (three word
 unfolding three
 beside word first second = (
   (two_apart 64 65 (λ same. omega (arith, same)), (two_apart 64 66 (λ same. omega (arith, same)), apart_from 64 64 (omega arith))),
-  ((two_apart 65 66 (λ same. omega (arith, same)), apart_from 65 64 (omega arith)),
-  (apart_from 66 64 (omega arith), blanks_are_blank.distinct)),
+  (
+    (two_apart 65 66 (λ same. omega (arith, same)), apart_from 65 64 (omega arith)),
+    (apart_from 66 64 (omega arith), blanks_are_blank.distinct),
+  ),
 )
 
 sizes : (word first second : List ℕ) → length first ≡ 3073 → length second ≡ 3073 → (copy : ℕ) → copy < 2

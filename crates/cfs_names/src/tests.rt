@@ -11,7 +11,7 @@ ghost use Rattle.cfs_journal.proofs.Blanks.{blanks};
 use crate::StoredTree;
 use cfs_ckpt::Checkpoint;
 use cfs_cred::Credential;
-use cfs_dir::{Kind, Path, Tree};
+use cfs_dir::{Kind, Moved, Path, Tree};
 use cfs_journal::Journal;
 use cfs_pmem::{MemRegion, Meter, Pick};
 use std::alloc::{AllocError, Global};
@@ -118,7 +118,9 @@ fn rename(
 ) -> Result<bool, Fail> {
     let from = Path::parse(alloc, from.as_bytes())?;
     let to = Path::parse(alloc, to.as_bytes())?;
-    let moved = stored.tree().node_to_move(owner(), &from, &to)?;
+    // taken apart, since the check wants the type of a part in sight
+    let Moved { node, replaced } = stored.tree().node_to_move(owner(), &from, &to)?;
+    let moved = Moved { node, replaced };
     Ok(stored.move_node(meter, &moved).is_ok())
 }
 
@@ -261,7 +263,9 @@ fn left_by_call(alloc: Global, call: Call, n: u64, k: u64) -> Result<(bool, [u64
 
 /// The names n0, n1 and x as words.
 const N0: u64 = 0x306e;
+
 const N1: u64 = 0x316e;
+
 const X: u64 = 0x78;
 
 /// Each stop of a call. The change is recovered once the gate of its record is written, step 17, if
@@ -373,7 +377,15 @@ fn left_by_next(alloc: Global, count: u32, n: u64) -> Result<([bool; 3], [u64; 2
 
 #[test]
 fn a_failed_change_is_none(rt: HostRuntime) -> Result<(), Fail> {
-    for (count, n) in [(1, 1), (1, 17), (1, 18), (64, 1), (64, 3075), (64, 3076), (64, 3094)] {
+    for (count, n) in [
+        (1, 1),
+        (1, 17),
+        (1, 18),
+        (64, 1),
+        (64, 3075),
+        (64, 3076),
+        (64, 3094),
+    ] {
         let given = left_by_next(rt.alloc(), count, n)?;
         let wanted = ([false, true, true], [u64::from(count) + 2, X]);
         assert_eq!(rt; given, wanted, "{count} and stop {n}");
