@@ -89,6 +89,7 @@ reads-may-come ino core entry world shows allowed = record {
     none_fits at slots same fits =
         let was : (track core.tracks at).gate ≡ Off = ap (λ (k : ℕ). (track core.tracks k).gate) same ∙ ap (λ (t : Track). t.gate) (blank_past core.tracks read).1 in
         shut-fits ino at (logged_at now.log (track now.tracks at) at) slots (off_shut (is_gated (head_words slots)) (ap (λ (f : Flag). can_be f (is_gated (head_words slots))) (sym was) ∙ fits.gate)) (gate_off at was)
+
     new_fits : (doubt : Option Doubt) (at : ℕ) (slots : List (List ℕ)) → at ≡ next → SlotFits ino at (holding core doubt at) slots →
         SlotFits ino at (holding now doubt at) slots
     new_fits None at slots same fits = none_fits at slots same fits

@@ -3,3 +3,4 @@ pub mod Worlds
 pub mod Recovering
 pub mod Ends
 pub mod Tellable
+pub mod Blanks

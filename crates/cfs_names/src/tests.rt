@@ -1,0 +1,394 @@
+ghost use Rattle.std.specs.Prelude.{◌≡◌, ◌<◌, ◌^◌, ◌++◌, [], IfOk, None, map, replicate};
+ghost use Rattle.std.specs.Option.{ForSome};
+ghost use Rattle.cfs_dir.specs.Namespace.{node_at};
+ghost use Rattle.cfs_pmem.specs.AllMoments.{AreDistinct};
+ghost use Rattle.cfs_pmem.specs.Images.{began};
+ghost use Rattle.cfs_pmem.specs.Objects.{all_devices};
+ghost use Rattle.cfs_ckpt.specs.Checkpoints.{seens_of};
+ghost use Rattle.cfs_journal.specs.Journals.{changes_of, regions_of, through_of};
+ghost use Rattle.cfs_journal.proofs.Blanks.{blanks};
+
+use crate::StoredTree;
+use cfs_ckpt::Checkpoint;
+use cfs_cred::Credential;
+use cfs_dir::{Kind, Moved, Path, Tree};
+use cfs_journal::Journal;
+use cfs_pmem::{MemRegion, Meter, Pick};
+use std::alloc::{AllocError, Global};
+use std::process::Abort;
+use std::test::Fail;
+
+/// A region of so many zeros.
+fn zeros(alloc: Global, device: u32, count: usize) -> Result<MemRegion, AllocError>
+    requires { count < 2 ^ 32 }
+    ensures { IfOk result (λ region.
+        region ≡ record { seen = began device (replicate count 0); faults = 0 }) }
+{
+    Ok(MemRegion::new(alloc, device, vec![in alloc; 0; count]?)?)
+}
+
+/// A journal on zeros: the devices 0 to 63.
+fn blank_journal(alloc: Global) -> Result<Journal<MemRegion>, AllocError>
+    ensures changes { IfOk result (λ journal. changes_of journal ≡ []) }
+    ensures through { IfOk result (λ journal. through_of journal ≡ 0) }
+    ensures regions { IfOk result (λ journal.
+        map (λ region. region.seen) (regions_of journal) ≡ blanks 64) }
+{
+    let mut records = Vec::with_capacity(alloc, 64)?;
+    for device in 0..64 {
+        records.push(zeros(alloc, device, 16)?)?;
+    }
+    let journal = Journal::blank(alloc, records)?;
+    Ok(journal)
+}
+
+/// A checkpoint on zeros: the devices 64 to 66.
+fn blank_checkpoint(alloc: Global) -> Result<Checkpoint<MemRegion>, AllocError>
+    ensures { IfOk result (λ checkpoint.
+        AreDistinct (all_devices (seens_of (λ region. region.seen) checkpoint ++ blanks 64))) }
+{
+    let selector = zeros(alloc, 64, 1)?;
+    let first = zeros(alloc, 65, 3073)?;
+    let second = zeros(alloc, 66, 3073)?;
+    let tables = vec![in alloc; first, second]?;
+    Ok(Checkpoint::blank(selector, tables))
+}
+
+/// A store of a root alone.
+fn begun(alloc: Global) -> Result<StoredTree<MemRegion>, AllocError> {
+    let journal = blank_journal(alloc)?;
+    let mut checkpoint = blank_checkpoint(alloc)?;
+    let tree = Tree::with_root(alloc, 0o755, 10, 10)?;
+    let mut meter = Meter::calm(alloc);
+    if checkpoint.store(&mut meter, &tree, 0).is_err() {
+        return Err(AllocError);
+    }
+    Ok(StoredTree::new(tree, journal, checkpoint))
+}
+
+/// The lowest record without a node.
+fn free_record(tree: &Tree) -> Option<u32>
+    ensures { ForSome result (λ rec. (rec < 256) × (node_at tree.now.nodes rec ≡ None)) }
+{
+    for rec in 0..256 {
+        if tree.node(rec).is_none() {
+            return Some(rec);
+        }
+    }
+    None
+}
+
+fn owner() -> Credential {
+    Credential { uid: 10, gid: 10 }
+}
+
+/// Makes a directory in the lowest free record. Answers whether it is stored.
+fn make(
+    alloc: Global,
+    stored: &mut StoredTree<MemRegion>,
+    meter: &mut Meter,
+    path: &str,
+) -> Result<bool, Fail> {
+    let path = Path::parse(alloc, path.as_bytes())?;
+    let tree = stored.tree();
+    let rec = free_record(tree);
+    let node = tree.node_to_make(Kind::Directory, owner(), &path, 0o755, rec)?;
+    Ok(stored.create(meter, &node).is_ok())
+}
+
+/// Removes a directory. Answers whether that is stored.
+fn remove(
+    alloc: Global,
+    stored: &mut StoredTree<MemRegion>,
+    meter: &mut Meter,
+    path: &str,
+) -> Result<bool, Fail> {
+    let path = Path::parse(alloc, path.as_bytes())?;
+    let node = stored.tree().directory_to_remove(owner(), &path)?;
+    Ok(stored.remove(meter, &node).is_ok())
+}
+
+/// Moves a directory. Answers whether that is stored.
+fn rename(
+    alloc: Global,
+    stored: &mut StoredTree<MemRegion>,
+    meter: &mut Meter,
+    from: &str,
+    to: &str,
+) -> Result<bool, Fail> {
+    let from = Path::parse(alloc, from.as_bytes())?;
+    let to = Path::parse(alloc, to.as_bytes())?;
+    // taken apart, since the check wants the type of a part in sight
+    let Moved { node, replaced } = stored.tree().node_to_move(owner(), &from, &to)?;
+    let moved = Moved { node, replaced };
+    Ok(stored.move_node(meter, &moved).is_ok())
+}
+
+/// A store of so many directories in the root, made in this order from record 1 on.
+fn begun_with(alloc: Global, meter: &mut Meter, count: u64) -> Result<StoredTree<MemRegion>, Fail> {
+    let mut stored = begun(alloc)?;
+    for number in 0..count {
+        let path = format!(in alloc; "/n{number}")?;
+        make(alloc, &mut stored, meter, path.as_str())?;
+    }
+    Ok(stored)
+}
+
+/// What a crash leaves of a store.
+#[derive(Drop)]
+struct Left {
+    selector: MemRegion,
+    tables: Vec<MemRegion>,
+    records: Vec<MemRegion>,
+}
+
+fn crash_all(regions: &mut [MemRegion], pick: &mut Pick) {
+    for region in regions.iter_mut() {
+        region.crash(pick);
+    }
+}
+
+fn after_crash(stored: StoredTree<MemRegion>, k: u64) -> Left {
+    let (_tree, journal, checkpoint) = stored.into_parts();
+    let (mut selector, mut tables) = checkpoint.into_parts();
+    let mut records = journal.into_parts();
+    let mut pick = Pick::new(k);
+    selector.crash(&mut pick);
+    crash_all(tables.as_mut_slice(), &mut pick);
+    crash_all(records.as_mut_slice(), &mut pick);
+    Left {
+        selector,
+        tables,
+        records,
+    }
+}
+
+/// A word of a region; 0 where there is none.
+fn word_at(region: Option<&MemRegion>, at: usize) -> u64 {
+    match region {
+        Some(region) => region.words().get(at).copied().unwrap_or(0),
+        None => 0,
+    }
+}
+
+/// What a record of the journal makes of one of the twelve words of the node at a record of the
+/// tree: behind its gate stand the operation, where 2 removes, the record of the tree, the twelve
+/// words, and the record of a node that is replaced, plus 1.
+fn changed(word: u64, entry: Option<&MemRegion>, rec: u64, at: usize) -> u64 {
+    if word_at(entry, 15) == rec.saturating_add(1) {
+        return 0;
+    }
+    if word_at(entry, 2) != rec {
+        return word;
+    }
+    if word_at(entry, 1) == 2 {
+        return 0;
+    }
+    word_at(entry, at.saturating_add(3))
+}
+
+/// One of the twelve words of the node that is recovered at a record of the tree; 0 without a node.
+fn recovered(left: &Left, rec: u32, at: usize) -> u64 {
+    let selected = word_at(Some(&left.selector), 0);
+    let table = left.tables.get((selected % 2) as usize);
+    let first = (rec as usize).saturating_mul(12).saturating_add(1);
+    let mut word = word_at(table, first.saturating_add(at));
+    for step in 0..64 {
+        let number = (selected / 2).saturating_add(step);
+        let entry = left.records.get((number % 64) as usize);
+        if word_at(entry, 0) != number.saturating_add(1) {
+            return word;
+        }
+        word = changed(word, entry, u64::from(rec), at);
+    }
+    word
+}
+
+/// The inode number and the first eight bytes of the name that are recovered at a record.
+fn found_at(left: &Left, rec: u32) -> [u64; 2] {
+    [recovered(left, rec, 0), recovered(left, rec, 7)]
+}
+
+/// How many of the directories that `begun_with` makes are recovered, in a row.
+fn count_left(left: &Left) -> u32 {
+    for rec in 1..256 {
+        if recovered(left, rec, 0) != u64::from(rec) + 1 {
+            return rec - 1;
+        }
+    }
+    255
+}
+
+/// A change of a store of the directories n0 and n1, at the records 1 and 2.
+#[derive(Clone, Copy)]
+enum Call {
+    /// Makes n2, at record 3.
+    Make,
+    /// Moves n0 over n1.
+    Move,
+    /// Removes n1.
+    Remove,
+}
+
+fn run_call(
+    alloc: Global,
+    stored: &mut StoredTree<MemRegion>,
+    meter: &mut Meter,
+    call: Call,
+) -> Result<bool, Fail> {
+    match call {
+        Call::Make => make(alloc, stored, meter, "/n2"),
+        Call::Move => rename(alloc, stored, meter, "/n0", "/n1"),
+        Call::Remove => remove(alloc, stored, meter, "/n1"),
+    }
+}
+
+/// Whether a call that stops at its `n`th writing step is stored, and what a crash leaves: the name
+/// at record 1 and the inode numbers at the records 2 and 3.
+fn left_by_call(alloc: Global, call: Call, n: u64, k: u64) -> Result<(bool, [u64; 3]), Fail> {
+    let mut meter = Meter::calm(alloc);
+    let mut stored = begun_with(alloc, &mut meter, 2)?;
+    meter.stop(n.max(1));
+    let done = run_call(alloc, &mut stored, &mut meter, call)?;
+    let left = after_crash(stored, k);
+    Ok((
+        done,
+        [
+            recovered(&left, 1, 7),
+            recovered(&left, 2, 0),
+            recovered(&left, 3, 0),
+        ],
+    ))
+}
+
+/// The names n0, n1 and x as words.
+const N0: u64 = 0x306e;
+
+const N1: u64 = 0x316e;
+
+const X: u64 = 0x78;
+
+/// Each stop of a call. The change is recovered once the gate of its record is written, step 17, if
+/// the crash keeps what was present, and once that is persisted, step 18, in any case.
+fn run_stops(rt: &impl Abort, alloc: Global, call: Call, after: [u64; 3]) -> Result<(), Fail> {
+    let before = [N0, 3, 0];
+    for n in 1..20 {
+        for (k, least) in [(0, 19), (1, 18)] {
+            let wanted = if n < least { before } else { after };
+            let given = left_by_call(alloc, call, n, k)?;
+            assert_eq!(rt; given, (n > 18, wanted), "stop {n}, pick {k}");
+        }
+    }
+    Ok(())
+}
+
+#[test]
+fn a_stop_leaves_the_change_made_or_not(rt: HostRuntime) -> Result<(), Fail> {
+    run_stops(&rt, rt.alloc(), Call::Make, [N0, 3, 4])?;
+    run_stops(&rt, rt.alloc(), Call::Move, [N1, 0, 0])?;
+    run_stops(&rt, rt.alloc(), Call::Remove, [N0, 0, 0])?;
+    Ok(())
+}
+
+/// The selector's word, and the gates of the first seven records of the journal.
+fn selector_and_gates(left: &Left) -> [u64; 8] {
+    let gate = |place: usize| word_at(left.records.get(place), 0);
+    [
+        word_at(Some(&left.selector), 0),
+        gate(0),
+        gate(1),
+        gate(2),
+        gate(3),
+        gate(4),
+        gate(5),
+        gate(6),
+    ]
+}
+
+// The first checkpoint is in the second copy, with the word 1, and so the one of 64 changes is in
+// the first copy, with the word 128.
+#[test]
+fn seventy_changes_take_a_checkpoint(rt: HostRuntime) -> Result<(), Fail> {
+    let mut meter = Meter::calm(rt.alloc());
+    let stored = begun_with(rt.alloc(), &mut meter, 70)?;
+    let left = after_crash(stored, 0);
+    assert_eq!(rt; selector_and_gates(&left), [128, 65, 66, 67, 68, 69, 70, 7]);
+    assert_eq!(rt; count_left(&left), 70);
+    Ok(())
+}
+
+/// Whether the 65th directory is stored, which stops at its `n`th writing step, and what a crash
+/// leaves: the selector's word, and how many directories.
+fn left_by_last(alloc: Global, n: u64, k: u64) -> Result<(bool, u64, u32), Fail> {
+    let mut meter = Meter::calm(alloc);
+    let mut stored = begun_with(alloc, &mut meter, 64)?;
+    meter.stop(n.max(1));
+    let done = make(alloc, &mut stored, &mut meter, "/n64")?;
+    let left = after_crash(stored, k);
+    Ok((done, word_at(Some(&left.selector), 0), count_left(&left)))
+}
+
+// The checkpoint has 3,073 steps of the table's words, one of its persist and two of the selector,
+// and the record has the eighteen behind them.
+#[test]
+fn a_stop_in_a_checkpoint_leaves_all_before(rt: HostRuntime) -> Result<(), Fail> {
+    for (n, k, word, count) in [
+        (1, 0, 1, 64),
+        (1, 1, 1, 64),
+        (3073, 1, 1, 64),
+        (3074, 1, 1, 64),
+        (3075, 0, 1, 64),
+        (3075, 1, 1, 64),
+        (3076, 0, 1, 64),
+        (3076, 1, 128, 64),
+        (3077, 0, 128, 64),
+        (3077, 1, 128, 64),
+        (3093, 1, 128, 64),
+        (3094, 0, 128, 64),
+        (3094, 1, 128, 65),
+        (3095, 0, 128, 65),
+    ] {
+        let given = left_by_last(rt.alloc(), n, k)?;
+        assert_eq!(rt; given, (n > 3094, word, count), "stop {n}, pick {k}");
+    }
+    Ok(())
+}
+
+/// Whether the tree has nothing at a record, and this next inode number.
+fn is_as_before(tree: &Tree, rec: u32, next: u64) -> bool {
+    tree.node(rec).is_none() && tree.next() == next
+}
+
+/// A directory of `count` and one more that stops at its `n`th writing step, and then another:
+/// whether the first is stored and leaves the tree as before, and the other is stored, and what a
+/// crash leaves of the other.
+fn left_by_next(alloc: Global, count: u32, n: u64) -> Result<([bool; 3], [u64; 2]), Fail> {
+    let mut meter = Meter::calm(alloc);
+    let mut stored = begun_with(alloc, &mut meter, u64::from(count))?;
+    meter.stop(n.max(1));
+    let lost = make(alloc, &mut stored, &mut meter, "/w")?;
+    meter.revive();
+    let rec = count.saturating_add(1);
+    let same = is_as_before(stored.tree(), rec, u64::from(rec) + 1);
+    let kept = make(alloc, &mut stored, &mut meter, "/x")?;
+    let left = after_crash(stored, 0);
+    Ok(([lost, same, kept], found_at(&left, rec)))
+}
+
+#[test]
+fn a_failed_change_is_none(rt: HostRuntime) -> Result<(), Fail> {
+    for (count, n) in [
+        (1, 1),
+        (1, 17),
+        (1, 18),
+        (64, 1),
+        (64, 3075),
+        (64, 3076),
+        (64, 3094),
+    ] {
+        let given = left_by_next(rt.alloc(), count, n)?;
+        let wanted = ([false, true, true], [u64::from(count) + 2, X]);
+        assert_eq!(rt; given, wanted, "{count} and stop {n}");
+    }
+    Ok(())
+}
