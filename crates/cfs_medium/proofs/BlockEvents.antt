@@ -29,7 +29,7 @@ use Rattle.cfs_medium.proofs.SlotEvents.{holding-same}
 
 -- ---- cores with another tag
 
-tag-differs : (core : Core) (block : ℕ) (flag : Flag) → DiffersIn block core (with_tag core block flag)
+pub tag-differs : (core : Core) (block : ℕ) (flag : Flag) → DiffersIn block core (with_tag core block flag)
 tag-differs core block flag = record {
   size = refl;
   sizes = refl;
@@ -39,7 +39,7 @@ tag-differs core block flag = record {
   bytes = λ position other. refl;
 }
 
-tag-shape : (core : Core) (block : ℕ) (flag : Flag) → HasShape core →
+pub tag-shape : (core : Core) (block : ℕ) (flag : Flag) → HasShape core →
     HasShape (with_tag core block flag)
 tag-shape core block flag shape = record {
   tags = length-set core.tags block flag ∙ shape.tags;
@@ -50,19 +50,19 @@ tag-shape core block flag shape = record {
   loose = shape.loose;
 }
 
-tag-here : (core : Core) (block : ℕ) (flag : Flag) → block < length core.tags →
+pub tag-here : (core : Core) (block : ℕ) (flag : Flag) → block < length core.tags →
     get_or (with_tag core block flag).tags block Off ≡ flag
 tag-here core block flag within = get_or-set_same core.tags block flag Off within
 
 -- ---- blocks by their tags
 
-free-for : (ino block : ℕ) (content : Content) → content.tag ≡ 0 → is_for ino block content ≡ false
+pub free-for : (ino block : ℕ) (content : Content) → content.tag ≡ 0 → is_for ino block content ≡ false
 free-for ino block content free =
     let other : content.tag ≢ tag_of ino block = λ same. omega (arith, same, free) in
     grind (arith, nat_tests)
 
 -- what fits with one flag fits with another that allows its tag
-flag-fits : (ino block : ℕ) (flag : Flag) (loose : List Stretch) (bytes : List ℕ) (content : Content) →
+pub flag-fits : (ino block : ℕ) (flag : Flag) (loose : List Stretch) (bytes : List ℕ) (content : Content) →
     can_be flag (is_for ino block content) ≡ true →
     (is_for ino block content ≡ false → content.tag ≡ 0) →
     (is_for ino block content ≡ true → (k : ℕ) → k < BLOCK_LEN →
@@ -72,7 +72,7 @@ flag-fits : (ino block : ℕ) (flag : Flag) (loose : List Stretch) (bytes : List
 flag-fits ino block flag loose bytes content can free same =
     record { tag_is = can; free = free; bytes_are = same }
 
-free-fits : (ino block : ℕ) (flag : Flag) (loose : List Stretch) (bytes : List ℕ) (content : Content) →
+pub free-fits : (ino block : ℕ) (flag : Flag) (loose : List Stretch) (bytes : List ℕ) (content : Content) →
     content.tag ≡ 0 → can_be flag false ≡ true → BlockFits ino block flag loose bytes content
 free-fits ino block flag loose bytes content free can =
     let other : is_for ino block content ≡ false = free-for ino block content free in
@@ -80,7 +80,7 @@ free-fits ino block flag loose bytes content free can =
 
 -- ---- trims
 
-any_can : (bit : Bool) → can_be Unsure bit ≡ true
+pub any_can : (bit : Bool) → can_be Unsure bit ≡ true
 any_can bit = refl
 
 pub trims-show : TrimsShow

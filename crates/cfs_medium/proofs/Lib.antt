@@ -20,3 +20,4 @@ pub mod QuietEvents
 pub mod ReadEvents
 pub mod FlushEvents
 pub mod WriteEvents
+pub mod TagEvents

@@ -1,5 +1,5 @@
 -- Events of a core as calls on one block.
-use Rattle.std.specs.Prelude.{ℕ, ◌+◌, ◌*◌, ◌/◌, ◌<◌, ◌≤◌, ◌≡◌, Bool, true, false, Option, Some, None, List, length, nat_le, OnOk, OnErr}
+use Rattle.std.specs.Prelude.{ℕ, ◌+◌, ◌*◌, ◌/◌, ◌<◌, ◌≤◌, ◌≡◌, ◌⊎◌, Bool, true, false, Option, Some, None, List, length, get_or, nat_le, OnOk, OnErr}
 use Rattle.std.specs.List.{list_all}
 use Rattle.cfs_file.specs.declared.sizes.TheConstants.{BLOCK_LEN}
 use Rattle.cfs_core.specs.declared.event.Event.TheVariants as events
@@ -12,10 +12,11 @@ use Rattle.cfs_core.specs.Words.{end_in, payload_at, piece_in, start_in, track}
 use Rattle.cfs_pmem.specs.declared.trace.Asked.{Asked}
 use Rattle.cfs_pmem.specs.Images.{Seen}
 use Rattle.cfs_pmem.specs.Moments.{Moments}
-use Rattle.cfs_block.specs.BlockImages.{BlockStep, IsBlockImage, IsRangedFrom, content_of, kept, unflushed, with_bytes}
+use Rattle.cfs_block.specs.BlockImages.{BlockStep, Content, IsBlockImage, IsRangedFrom, content_of, kept, unflushed, with_bytes}
 use Rattle.cfs_block.specs.BlockOps.{SetsTag}
 use Rattle.cfs_medium.specs.Shows.{Recovers, Shows}
 use Rattle.cfs_medium.specs.SlotEvents.{Answer}
+use Rattle.cfs_medium.specs.Store.{tag_of}
 use Rattle.cfs_medium.specs.World.{World}
 use Rattle.cfs_medium.specs.WorldCalls.{WorldMoments, with_block}
 
@@ -94,3 +95,23 @@ WritesShow =
     WorldMoments (Recovers ino n (after core (events.BlockWrite place block left))) asked_old world
     asked_new (with_block block (Some new) world)
     × Shows ino (after core (events.BlockWrite place block left)) (with_block block (Some new) world)
+
+-- an image of zeros, with no tag but perhaps this one
+pub record IsBlank (tag : ℕ) (content : Content) : Type 0 where
+  pub tag_is : (content.tag ≡ 0) ⊎ (content.tag ≡ tag)
+  pub zeros : (k : ℕ) → k < BLOCK_LEN → get_or content.bytes k 0 ≡ 0
+
+-- A block of zeros is tagged for a file block, in every image or, where that fails, in some.
+abbrev pub TagsShow : Type 0
+TagsShow =
+    (ino n block : ℕ) (core : Core) (world : World) (seen new : Seen BlockStep)
+    (obeys keeps : Bool) (result : Answer) (asked_old asked_new : List Asked) →
+    IsGood (after core (events.Tag block false)) → Shows ino core world →
+    may core (events.Tag block true) ≡ true → length core.log + 2 ≤ n →
+    world.blocks block ≡ Some seen → 0 < length (content_of seen).bytes →
+    ((content : Content) → IsBlockImage seen.history content →
+    IsBlank (tag_of ino block) content) →
+    SetsTag obeys keeps (tag_of ino block) result asked_old seen asked_new new →
+    BlockLeads ino n block (after core (events.Tag block false))
+    (after core (events.Tag block true))
+    (after core (events.Tag block false)) world new result asked_old asked_new

@@ -10,7 +10,7 @@ mod recovery;
 
 ghost use Rattle.cfs_medium.specs.Laws.{BlocksMayChange, BlocksMayCome, BlocksOfOthersStay, DepictedStoresRecover, EmptyStoresDepict, FittingRemainsRecover, GatesMayClose, HeadsMayBeSet, RunsAreRecovered, ShownWorldsRecover, ShutSlotsShow, SizesMayBeSet, SlotsMayCome, SlotsOfOthersStay, TagsAreApart};
 ghost use Rattle.cfs_medium.specs.QuietEvents.{QuietEventsShow, ReadsMayCome};
-ghost use Rattle.cfs_medium.specs.BlockEvents.{FlushesShow, TrimsShow, WritesShow};
+ghost use Rattle.cfs_medium.specs.BlockEvents.{FlushesShow, TagsShow, TrimsShow, WritesShow};
 ghost use Rattle.cfs_medium.specs.SlotEvents.{AdmissionsShow, MarksShow, SettlesShow, SkipsShow};
 
 pub use recovery::{BlockFound, recover};
@@ -130,6 +130,11 @@ pub fn reads_may_come()
 /// What a job wrote into a block may be flushed, and the devices show it durable, or as it was.
 pub fn flushes_show()
     ensures { FlushesShow }
+{}
+
+/// A block of zeros may be tagged, and the devices show it mapped, or that it may be.
+pub fn tags_show()
+    ensures { TagsShow }
 {}
 
 /// A job may write into a block, or fail to, and the devices show its bytes there, not yet durable.
