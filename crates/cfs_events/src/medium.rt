@@ -271,7 +271,8 @@ fn apply_open(
     tracks: &[Track],
     image: &Image,
 ) -> Result<(), NoMemory>
-    ensures { OnOk result (file.new ≡ file_of file.old (open_entries tracks.now image.now log.now)) }
+    ensures { OnOk result
+        (file.new ≡ file_of file.old (open_entries tracks.now image.now log.now)) }
 {
     for entry in log {
         if is_open(image, entry.place) {

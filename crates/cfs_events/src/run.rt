@@ -20,7 +20,8 @@ pub fn run_events(alloc: Global, core: Core, events: &[Event]) -> Result<Core, E
     ensures run { IfOk result (λ last. IsRun core events.now) }
     ensures made { IfOk result (λ last. last ≡ after_all core events.now) }
     ensures good { IsFresh core → IfOk result IsGood }
-    ensures refused { IfErr result (λ refusal. OnRefused refusal (λ at. IsRefusal at core events.now)) }
+    ensures refused { IfErr result
+        (λ refusal. OnRefused refusal (λ at. IsRefusal at core events.now)) }
 {
     let mut core = core;
     for (at, event) in events.iter().enumerate() {

@@ -573,8 +573,8 @@ fn every_event_is_refused_where_it_has_no_case(rt: HostRuntime) -> Result<(), Fa
     Ok(())
 }
 
-/// Two hundred moves, drawn among those that may come, and a truncate. The answers of their reads were
-/// worked out from the requests alone.
+/// Two hundred moves, drawn among those that may come, and a truncate. The answers of their reads
+/// were worked out from the requests alone.
 const LONG_RUN: [&str; 25] = [
     "tag 0;put 1 5 elc;read 2 5;put 3 7 h;dispatch 1;tag-fails 1;put 4 4 m;write 1 0;tag 2",
     "put 5 4090 e;flush 1 0;retire 1;drop 2;read 6 4100;cut 7 4095;dispatch 5;cut 8 8196;back 5",

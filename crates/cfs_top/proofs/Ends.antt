@@ -14,7 +14,7 @@ use Rattle.cfs_top.specs.declared.out_line.OutLine.{OutLine}
 use Rattle.cfs_top.specs.declared.status.Status.{Status}
 use Rattle.cfs_top.specs.declared.status.Status.TheVariants.{Done, Usage, Script, Input, Output, Shelf, NoMemory}
 use Rattle.cfs_top.specs.Command.{IsMkfs}
-use Rattle.cfs_top.specs.Outside.{AreMkfs, ArePlay, Ends, IsDue, IsHeeded, Keeps, Makes, PlayIsDue, Says, Writes, WritesAll, WritesFront}
+use Rattle.cfs_top.specs.Outside.{AreMkfs, ArePlay, Ends, IsDue, IsHeeded, LeavesShelf, Makes, PlayIsDue, Says, Writes, WritesAll, WritesFront}
 use Rattle.cfs_top.specs.Play.{PlaysAll, PlaysFront, Run}
 use Rattle.cfs_top.specs.Text.{texts}
 use Rattle.cfs_top.proofs.Orders.{KeepsOrder-run}
@@ -156,7 +156,7 @@ mkfs_ends NoMemory words image blocks queues left written old new is made = reco
 }
 
 -- the files of the shelf stay as they were, with words that are not `mkfs`
-pub kept_files : (status : Status) (words : List (List ℕ)) (files : Option Files) → (AreMkfs words → ⊥) → (status ≡ Shelf → ⊥) → Keeps status words files files
+pub kept_files : (status : Status) (words : List (List ℕ)) (files : Option Files) → (AreMkfs words → ⊥) → (status ≡ Shelf → ⊥) → LeavesShelf status words files files
 kept_files Done words files none other = inr (none, refl)
 kept_files Usage words files none other = refl
 kept_files Script words files none other = refl

@@ -136,14 +136,14 @@ pub record FailsToSave (words : List (List ℕ)) (old new : Option Files) : Type
   pub others : OthersKept old new image
 
 -- what became of the files of the shelf
-abbrev pub Keeps : Status → List (List ℕ) → Option Files → Option Files → Type 0
-Keeps Done words old new = SavesNew words old new ⊎ ((AreMkfs words → ⊥) × (new ≡ old))
-Keeps Usage words old new = new ≡ old
-Keeps Script words old new = new ≡ old
-Keeps Input words old new = new ≡ old
-Keeps Output words old new = new ≡ old
-Keeps Shelf words old new = FailsToSave words old new
-Keeps NoMemory words old new = new ≡ old
+abbrev pub LeavesShelf : Status → List (List ℕ) → Option Files → Option Files → Type 0
+LeavesShelf Done words old new = SavesNew words old new ⊎ ((AreMkfs words → ⊥) × (new ≡ old))
+LeavesShelf Usage words old new = new ≡ old
+LeavesShelf Script words old new = new ≡ old
+LeavesShelf Input words old new = new ≡ old
+LeavesShelf Output words old new = new ≡ old
+LeavesShelf Shelf words old new = FailsToSave words old new
+LeavesShelf NoMemory words old new = new ≡ old
 
 -- A call with these words ended so: what it wrote is what is due, and the shelf is as the status
 -- says. Only `play` reads the source.
@@ -152,7 +152,7 @@ pub record Ends (status : Status) (words : List (List ℕ)) (before after : Outs
   pub asked : status ≡ Input → ArePlay words
   pub came : SomeCame before.left after.left
   pub unread : (ArePlay words → ⊥) → after.left ≡ before.left
-  pub files : Keeps status words before.files after.files
+  pub files : LeavesShelf status words before.files after.files
 
 -- what became of the files of the shelf by `mkfs`
 abbrev pub Makes : Status → List ℕ → ℕ → ℕ → Option Files → Option Files → Type 0

@@ -15,7 +15,7 @@ use Rattle.cfs_tree.specs.Nodes.{stored_at, no_node, height_under, start_of, alo
 use Rattle.cfs_tree.specs.Shape.{NodeTree, Empty, root_of, numbers_of, Stands, times}
 use Rattle.cfs_tree.specs.Change.{rank, Ascends, insert_ranked, without, IsTree, CanInsert, InsertsTo, RemovesTo, RemovesAndFrees}
 use Rattle.cfs_tree.specs.Spans.{IsBounded, HasPositions, insert_in_order, without_place}
-use Rattle.cfs_tree.specs.Holding.{kept_of, Holds, Keeps}
+use Rattle.cfs_tree.specs.Holding.{kept_of, Holds, HoldsStill}
 use Rattle.cfs_tree.proofs.Standing.{times-append, times-here, Stands-same, Stands-longer, height_under-same, differs}
 use Rattle.cfs_tree.proofs.Ranked.{times-insert, times-without, times-without_gone, times-without_other, Ascends-same, Ascends-insert, Ascends-without, Apart-all, length-insert, length-without}
 use Rattle.cfs_tree.proofs.Kept.{height-le-length, kept_of-same, kept_of-insert, kept_of-without}
@@ -356,7 +356,7 @@ height-same old new same (Some n) = ap (λ v. v.height) (same n)
 -- a number more, which is free
 pub numbered : (old new : SpanStore) (root : Option ℕ) (t : NodeTree) → Holds old root t → old.free.items ≡ [] →
     new.nodes.items ≡ old.nodes.items ++ no_node ∷ [] → new.free.items ≡ length old.nodes.items ∷ [] → new.numbers ≡ old.numbers →
-    length old.nodes.items + 2 < 2 ^ 32 → length old.nodes.items + 1 ≤ vec_capacity new.free → Keeps old new root t
+    length old.nodes.items + 2 < 2 ^ 32 → length old.nodes.items + 1 ≤ vec_capacity new.free → HoldsStill old new root t
 numbered old new root t h none is free numbers few room =
     let n0 : List StoredNode = old.nodes.items in
     let n2 : List StoredNode = new.nodes.items in
@@ -426,7 +426,7 @@ empty_holds store nodes free none =
 
 -- the same numbers of the same places
 pub Holds-numbers : (old new : SpanStore) (root : Option ℕ) (t : NodeTree) → Holds old root t → new.nodes ≡ old.nodes → new.free ≡ old.free →
-    ((q : ℕ) → hash.get nat_eq new.numbers q ≡ hash.get nat_eq old.numbers q) → Keeps old new root t
+    ((q : ℕ) → hash.get nat_eq new.numbers q ≡ hash.get nat_eq old.numbers q) → HoldsStill old new root t
 Holds-numbers old new root t h nodes free got =
     let P : List StoredNode → Type 0 = λ w. IsTree w root t in
     let at : (n : ℕ) → stored_at new.nodes.items n ≡ stored_at old.nodes.items n = λ n. ap (λ w. stored_at w.items n) nodes in
@@ -450,5 +450,5 @@ Holds-numbers old new root t h nodes free got =
       ap (λ w. kept_of w.items (numbers_of t)) nodes,
     )
 
-pub Keeps-then : (a b c : SpanStore) (root : Option ℕ) (t : NodeTree) → Keeps a b root t → (Holds b root t → Keeps b c root t) → Keeps a c root t
-Keeps-then a b c root t first next = let k = next first.0 in (k.0, k.1 ∙ first.1)
+pub HoldsStill-then : (a b c : SpanStore) (root : Option ℕ) (t : NodeTree) → HoldsStill a b root t → (Holds b root t → HoldsStill b c root t) → HoldsStill a c root t
+HoldsStill-then a b c root t first next = let k = next first.0 in (k.0, k.1 ∙ first.1)

@@ -58,7 +58,7 @@ list_of store t =
     record { spans = kept_of store.nodes.items (numbers_of t); spare = spare_of store }
 
 -- the store changed, and the tree and the list stay
-abbrev pub Keeps : SpanStore → SpanStore → Option ℕ → NodeTree → Type 0
-Keeps old new root t =
+abbrev pub HoldsStill : SpanStore → SpanStore → Option ℕ → NodeTree → Type 0
+HoldsStill old new root t =
     Holds new root t
     × (kept_of new.nodes.items (numbers_of t) ≡ kept_of old.nodes.items (numbers_of t))

@@ -6,7 +6,7 @@ ghost use Rattle.std.specs.Option.{option_copied};
 ghost use Rattle.cfs_tree.specs.Store.{node_of, span_of};
 ghost use Rattle.cfs_tree.specs.Shape.{NodeTree, Empty, numbers_of};
 ghost use Rattle.cfs_tree.specs.Spans.{IsBounded, HasPositions, insert_in_order, without_place};
-ghost use Rattle.cfs_tree.specs.Holding.{Holds, kept_of, spare_of, Keeps};
+ghost use Rattle.cfs_tree.specs.Holding.{Holds, kept_of, spare_of, HoldsStill};
 
 mod balance;
 mod change;
@@ -71,7 +71,7 @@ impl SpanStore {
     pub(crate) fn reserve(&mut self) -> Result<(), NoMemory>
         requires { (root : Option ℕ) × (t : NodeTree) × Holds self.old root t }
         ensures holds { (root : Option ℕ) (t : NodeTree) → Holds self.old root t →
-            Keeps self.old self.new root t }
+            HoldsStill self.old self.new root t }
         ensures ok { OnOk result (0 < spare_of self.new) }
         ensures spare { spare_of self.old ≤ spare_of self.new }
     {
@@ -87,7 +87,7 @@ impl SpanStore {
         requires holds { (root : Option ℕ) × (t : NodeTree) × Holds self.old root t }
         requires none { self.old.free.items ≡ [] }
         ensures holds { (root : Option ℕ) (t : NodeTree) → Holds self.old root t →
-            Keeps self.old self.new root t }
+            HoldsStill self.old self.new root t }
         ensures numbers { self.new.numbers ≡ self.old.numbers }
         ensures ok { OnOk result (0 < length self.new.free.items) }
     {
