@@ -21,3 +21,4 @@ pub mod ReadEvents
 pub mod FlushEvents
 pub mod WriteEvents
 pub mod TagEvents
+pub mod FinishEvents

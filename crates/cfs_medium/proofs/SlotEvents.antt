@@ -46,7 +46,7 @@ holding-same core now (Some d) at same =
     ap (λ (h : Holding). if d.entry.place == at then doubted d else h) same
 
 -- one with another track at a place
-track-differs : (core : Core) (place : ℕ) (t : Track) → (place ≡ 0 → ⊥) →
+pub track-differs : (core : Core) (place : ℕ) (t : Track) → (place ≡ 0 → ⊥) →
     DiffersAt place core (with_track core place t)
 track-differs core place t some = record {
   size = refl;
@@ -58,7 +58,7 @@ track-differs core place t some = record {
       (ap (λ (u : Track). logged_at core.log u at) (track_beside core.tracks place at t some other));
 }
 
-track-shape : (core : Core) (place : ℕ) (t : Track) → (place ≡ 0 → ⊥) → HasShape core →
+pub track-shape : (core : Core) (place : ℕ) (t : Track) → (place ≡ 0 → ⊥) → HasShape core →
     IsBesideDoubt core place → HasShape (with_track core place t)
 track-shape core place t some shape beside = record {
   tags = shape.tags;
@@ -83,7 +83,7 @@ track-here core place t some within =
     ∙ get_or-set_same core.tracks (place - 1) t blank (omega (arith, within, some))
 
 -- what is known at a place beside the doubt's number
-holding-logged : (core : Core) (doubt : Option Doubt) (place : ℕ) →
+pub holding-logged : (core : Core) (doubt : Option Doubt) (place : ℕ) →
     ((d : Doubt) → doubt ≡ Some d → d.entry.place ≢ place) →
     holding core doubt place ≡ logged_at core.log (track core.tracks place) place
 holding-logged core None place beside = refl
@@ -119,7 +119,7 @@ abbrev plain_ok : Unit {0} → Answer
 plain_ok value = Ok value
 
 -- once it was set, the gate is closed in every image
-closed-shut : (obeys : Bool) (value : Unit {0}) (head new : Seen WordStep)
+pub closed-shut : (obeys : Bool) (value : Unit {0}) (head new : Seen WordStep)
     (tails : List (Seen WordStep)) (asked_old asked_new : List Asked) →
     SetsWord obeys 0 0 (plain_ok value) asked_old head asked_new new → AreShut (new ∷ tails)
 closed-shut obeys value head new tails asked_old asked_new sets [] images = absurd images
@@ -130,7 +130,7 @@ closed-shut obeys value head new tails asked_old asked_new sets (image ∷ rest)
     ap is_gated is ∙ set_gate (words_of head)
 
 -- What a world shows whose slots at a number are closed in every image.
-closed-shows : (ino place : ℕ) (core now : Core) (world : World) (seens : List (Seen WordStep)) →
+pub closed-shows : (ino place : ℕ) (core now : Core) (world : World) (seens : List (Seen WordStep)) →
     Shows ino core (with_slots place seens world) → AreShut seens → DiffersAt place core now →
     HasShape now → (holding now now.doubt place).gate ≡ Off →
     Shows ino now (with_slots place seens world)
@@ -462,7 +462,7 @@ opened-fits ino place now request words tails staged gate mark asked some long =
       request = λ gated. asked ∙ ap (λ (r : Request). Some r) (sym (keeps.1.1.1 ∙ staged.is));
     }
 
-closed-fits : (ino place : ℕ) (now : Holding) (words : List ℕ) (tails : List (List ℕ)) →
+pub closed-fits : (ino place : ℕ) (now : Holding) (words : List ℕ) (tails : List (List ℕ)) →
     gate_of words ≡ 0 → can_be now.gate false ≡ true → SlotFits ino place now (words ∷ tails)
 closed-fits ino place now words tails zero_ gate =
     let closed : is_gated words ≡ false = rw zero_ refl in

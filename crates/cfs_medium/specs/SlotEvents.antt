@@ -3,7 +3,11 @@ use Rattle.std.specs.Prelude.{ℕ, ◌+◌, ◌≤◌, ◌<◌, ◌≡◌, ◌�
 use Rattle.cfs_file.specs.declared.entry.Entry.{Entry}
 use Rattle.cfs_file.specs.declared.request.Request.{Request}
 use Rattle.cfs_core.specs.declared.doubt.Doubt.{Doubt}
+use Rattle.cfs_core.specs.declared.event.End.{End}
+use Rattle.cfs_core.specs.declared.event.End.TheVariants as ends
 use Rattle.cfs_core.specs.declared.event.Event.TheVariants as events
+use Rattle.cfs_core.specs.declared.event.SizeEnd.TheVariants as sizes
+use Rattle.cfs_core.specs.declared.flag.Flag.{Flag}
 use Rattle.cfs_core.specs.declared.flag.Flag.TheVariants.{Unsure}
 use Rattle.cfs_core.specs.declared.inode_core.Core.{Core}
 use Rattle.cfs_core.specs.After.{after}
@@ -107,3 +111,23 @@ MarksShow =
     Leads ino n place (after core (events.Mark place by false))
     (after core (events.Mark place by true))
     (after core (events.Mark place by false)) world new tails result asked_old asked_new
+
+-- how a job ends that did all and set the size word, but whose gate is still as this flag says
+abbrev pub sized_end : Flag → End
+sized_end gate = ends.Back sizes.Set gate true
+
+-- The gate of a request is closed whose bytes stand and whose size word is set: it is retired.
+abbrev pub RetiresShow : Type 0
+RetiresShow =
+    (ino n place : ℕ) (gate : Flag) (core : Core) (world : World) (head new : Seen WordStep)
+    (tails : List (Seen WordStep)) (obeys : Bool) (result : Answer)
+    (asked_old asked_new : List Asked) →
+    IsGood (after core (events.Finish place (sized_end Unsure))) →
+    Shows ino (after core (events.Finish place (sized_end gate))) world →
+    may core (events.Finish place (sized_end gate)) ≡ true → IsBesideDoubt core place →
+    length core.log + 2 ≤ n → world.slots place ≡ head ∷ tails →
+    SetsWord obeys 0 0 result asked_old head asked_new new →
+    Leads ino n place (after core (events.Finish place (sized_end Unsure)))
+    (after core (events.Finish place ends.Retired))
+    (after core (events.Finish place (sized_end Unsure))) world new tails result asked_old
+    asked_new

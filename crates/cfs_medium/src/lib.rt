@@ -11,7 +11,7 @@ mod recovery;
 ghost use Rattle.cfs_medium.specs.Laws.{BlocksMayChange, BlocksMayCome, BlocksOfOthersStay, DepictedStoresRecover, EmptyStoresDepict, FittingRemainsRecover, GatesMayClose, HeadsMayBeSet, RunsAreRecovered, ShownWorldsRecover, ShutSlotsShow, SizesMayBeSet, SlotsMayCome, SlotsOfOthersStay, TagsAreApart};
 ghost use Rattle.cfs_medium.specs.QuietEvents.{QuietEventsShow, ReadsMayCome};
 ghost use Rattle.cfs_medium.specs.BlockEvents.{FlushesShow, TagsShow, TrimsShow, WritesShow};
-ghost use Rattle.cfs_medium.specs.SlotEvents.{AdmissionsShow, MarksShow, SettlesShow, SkipsShow};
+ghost use Rattle.cfs_medium.specs.SlotEvents.{AdmissionsShow, MarksShow, RetiresShow, SettlesShow, SkipsShow};
 
 pub use recovery::{BlockFound, recover};
 
@@ -114,6 +114,12 @@ pub fn marks_show()
 /// A block past the stored size may be given up, and the devices show it free, or that it may be.
 pub fn trims_show()
     ensures { TrimsShow }
+{}
+
+/// The gate of a request whose bytes stand and whose size word is set may be closed, and the devices
+/// show it retired, or that it may be.
+pub fn retires_show()
+    ensures { RetiresShow }
 {}
 
 /// A read may be served, a job given out, and one come back for the blocks that are left: the devices
