@@ -22,3 +22,4 @@ pub mod FlushEvents
 pub mod WriteEvents
 pub mod TagEvents
 pub mod FinishEvents
+pub mod SizeEvents

@@ -4,18 +4,19 @@ use Rattle.std.proofs.lemmas.List.{length-set}
 use Rattle.cfs_core.specs.declared.event.End.TheVariants as ends
 use Rattle.cfs_core.specs.declared.event.Event.{Event}
 use Rattle.cfs_core.specs.declared.event.Event.TheVariants as events
+use Rattle.cfs_core.specs.declared.event.SizeEnd.TheVariants as sizes
 use Rattle.cfs_core.specs.declared.inode_core.Core.{Core}
 use Rattle.cfs_core.specs.declared.state.State.{State}
 use Rattle.cfs_core.specs.declared.state.State.TheVariants.{Closed, Out}
 use Rattle.cfs_core.specs.declared.track.Track.{Track}
-use Rattle.cfs_core.specs.After.{after, more_to_come, with_track}
+use Rattle.cfs_core.specs.After.{after, more_to_come, put_back, with_track}
 use Rattle.cfs_core.specs.Jobs.{next_job}
 use Rattle.cfs_core.specs.May.{ends_well, is_in_phase, may_dispatch, may_finish, may_serve}
 use Rattle.cfs_core.specs.Words.{is_out, is_unserved, is_waiting, track}
 use Rattle.cfs_core.proofs.Legal.{both}
 use Rattle.cfs_core.proofs.Marks.{track_beside}
 use Rattle.cfs_core.proofs.Order.{same_or_not, some_place}
-use Rattle.cfs_medium.specs.QuietEvents.{QuietEventsShow}
+use Rattle.cfs_medium.specs.QuietEvents.{BacksShow, QuietEventsShow}
 use Rattle.cfs_medium.specs.Shows.{Holding, Shows, logged_at}
 use Rattle.cfs_medium.specs.World.{World}
 use Rattle.cfs_medium.proofs.SlotEvents.{holding-same, track-here, within_place}
@@ -110,3 +111,9 @@ quiet-events-show ino core (events.Trim block kept) world shows is allowed = abs
 quiet-events-show ino core events.Settle world shows is allowed = absurd (cc)
 quiet-events-show ino core (events.Crash image) world shows is allowed = absurd (cc)
 quiet-events-show ino core events.Mount world shows is allowed = absurd (cc)
+
+pub backs-show : BacksShow
+backs-show ino place gate applied core world shows allowed same =
+    let case = (both (is_in_phase core.crashed (events.Finish place (ends.Back sizes.AsBefore gate applied))) (may_finish core place (ends.Back sizes.AsBefore gate applied)) allowed).1 in
+    let at = placed core place is_out refl (both (is_out (track core.tracks place).state) (ends_well core place (ends.Back sizes.AsBefore gate applied)) case).0 in
+    quiet ino place core (put_back (track core.tracks place) gate applied) world at.0 at.1 same refl refl shows

@@ -1,21 +1,24 @@
 -- Steps on the size word, and devices that come and go: what is left at each moment, and what the
 -- world shows behind them.
-use Rattle.std.proofs.Common.{◌≡◌, inl, inr, ℕ, true, false, Option, Some, None, List, [], ◌∷◌, get_or, arith, refl}
+use Rattle.std.proofs.Common.{◌≡◌, inl, inr, ℕ, true, false, Option, Some, None, List, [], ◌∷◌, ◌+◌, ◌≤◌, length, get_or, arith, refl}
 use Rattle.std.proofs.lemmas.Bool.Decides.{nat_tests}
 use Rattle.cfs_core.specs.declared.flag.Flag.TheVariants.{Off}
 use Rattle.cfs_core.specs.declared.inode_core.Core.{Core}
 use Rattle.cfs_core.specs.Words.{can_be}
 use Rattle.cfs_core.specs.Medium.{is_size}
-use Rattle.cfs_pmem.specs.Images.{Seen, WordStep, IsImage, IsSetFrom, stepped}
+use Rattle.cfs_core.specs.Good.{IsGood}
+use Rattle.cfs_pmem.specs.declared.trace.Asked.{Asked}
+use Rattle.cfs_pmem.specs.Images.{Seen, WordStep, IsImage, IsSetFrom, stepped, words_of}
+use Rattle.cfs_pmem.specs.Moments.{Moments}
 use Rattle.cfs_pmem.proofs.AllMomentLemmas.{among}
 use Rattle.cfs_pmem.proofs.MomentLemmas.{at_end}
 use Rattle.cfs_block.specs.BlockImages.{BlockStep, Content, content_of}
 use Rattle.cfs_medium.specs.Differs.{DiffersInSize}
 use Rattle.cfs_medium.specs.Laws.{BlocksMayCome, SizesMayBeSet, SlotsMayCome}
-use Rattle.cfs_medium.specs.Shows.{BlockFits, BlockShown, ReadsAs, Recovers, RemainsFit, Shows, SlotsShown, holding, is_for, is_gated}
+use Rattle.cfs_medium.specs.Shows.{BlockFits, BlockShown, HasShape, ReadsAs, Recovers, RemainsFit, Shows, SlotsShown, holding, is_for, is_gated}
 use Rattle.cfs_medium.specs.Store.{tag_of}
 use Rattle.cfs_medium.specs.World.{MayRemain, Remains, World, head_words}
-use Rattle.cfs_medium.specs.WorldCalls.{AreShut, HasBlock, HasSlots, IsBare, for_block, for_slots, of_size, with_block, with_size, with_slots}
+use Rattle.cfs_medium.specs.WorldCalls.{AreShut, HasBlock, HasSlots, IsBare, WorldMoments, for_block, for_slots, of_size, with_block, with_size, with_slots}
 use Rattle.cfs_medium.proofs.BlockSteps.{block_shows, same_core}
 use Rattle.cfs_medium.proofs.LiveLeft.{fitting-recovers, shown-recovers}
 use Rattle.cfs_medium.proofs.SlotSteps.{differs-none, slots_show}
@@ -34,27 +37,22 @@ size-fits ino core now world seen remains shows differs may size = record {
       ((shows.blocks block within).images (remains.blocks block) (may.blocks block));
 }
 
-pub sizes-set : SizesMayBeSet
-sizes-set ino n word core now world new asked_old asked_new shows differs good shape room fits reads
-    moments = (
-      among tt
-          (record {
-            tick = λ step asked seen numbers some own.
-                of_size (stepped step seen) (inr (step, refl))
-                (record { some = some; own = rw numbers own });
-            look = λ asked seen numbers some own.
-                of_size seen (inl refl) (record { some = some; own = rw numbers own });
-            gives = gives;
-          }) moments,
-      record {
-        shape = shape;
-        sizes = λ words image. fits words (at_end moments words image);
-        size_now = reads;
-        slots = λ place. rw (differs.held place) (shows.slots place);
-        blocks = λ block within. rw (differs.tags, differs.loose, differs.bytes)
-            (shows.blocks block within);
-      },
-    )
+-- at each moment of a call that sets the size word
+pub size-moments : (ino n word : ℕ) (core now : Core) (world : World) (new : Seen WordStep)
+    (asked_old asked_new : List Asked) → Shows ino core world → DiffersInSize core now → IsGood now →
+    HasShape now → length now.log + 2 ≤ n →
+    ((words : List ℕ) → IsSetFrom world.size 0 word words → is_size now (get_or words 0 0) ≡ true) →
+    Moments IsImage (IsSetFrom world.size 0 word) asked_old world.size asked_new new →
+    WorldMoments (Recovers ino n now) asked_old world asked_new (with_size new world)
+size-moments ino n word core now world new asked_old asked_new shows differs good shape room fits moments =
+    among tt
+    (record {
+      tick = λ step asked seen numbers some own.
+          of_size (stepped step seen) (inr (step, refl)) (record { some = some; own = rw numbers own });
+      look = λ asked seen numbers some own.
+          of_size seen (inl refl) (record { some = some; own = rw numbers own });
+      gives = gives;
+    }) moments
   where
     gives : (seen : Seen WordStep) →
         ((words : List ℕ) → IsImage seen.history words → IsSetFrom world.size 0 word words) →
@@ -63,6 +61,25 @@ sizes-set ino n word core now world new asked_old asked_new shows differs good s
         fitting-recovers ino n now remains good shape
         (size-fits ino core now world seen remains shows differs may
         (fits remains.size (each remains.size may.size))) room
+
+-- what the devices show with another region of the size word
+pub size_shows : (ino : ℕ) (core now : Core) (world : World) (new : Seen WordStep) → Shows ino core world →
+    DiffersInSize core now → HasShape now →
+    ((words : List ℕ) → IsImage new.history words → is_size now (get_or words 0 0) ≡ true) →
+    get_or (words_of new) 0 0 ≡ now.size → Shows ino now (with_size new world)
+size_shows ino core now world new shows differs shape fits reads = record {
+  shape = shape;
+  sizes = fits;
+  size_now = reads;
+  slots = λ place. rw (differs.held place) (shows.slots place);
+  blocks = λ block within. rw (differs.tags, differs.loose, differs.bytes) (shows.blocks block within);
+}
+
+pub sizes-set : SizesMayBeSet
+sizes-set ino n word core now world new asked_old asked_new shows differs good shape room fits reads moments = (
+  size-moments ino n word core now world new asked_old asked_new shows differs good shape room fits moments,
+  size_shows ino core now world new shows differs shape (λ words image. fits words (at_end moments words image)) reads,
+)
 
 -- ---- slots and blocks that come and go
 

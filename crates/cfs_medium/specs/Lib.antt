@@ -10,3 +10,4 @@ pub mod Laws
 pub mod SlotEvents
 pub mod BlockEvents
 pub mod QuietEvents
+pub mod SizeEvents

@@ -4,9 +4,12 @@ use Rattle.cfs_file.specs.declared.entry.Entry.{Entry}
 use Rattle.cfs_core.specs.declared.event.End.TheVariants as ends
 use Rattle.cfs_core.specs.declared.event.Event.{Event}
 use Rattle.cfs_core.specs.declared.event.Event.TheVariants as events
+use Rattle.cfs_core.specs.declared.event.SizeEnd.TheVariants as sizes
+use Rattle.cfs_core.specs.declared.flag.Flag.{Flag}
 use Rattle.cfs_core.specs.declared.inode_core.Core.{Core}
 use Rattle.cfs_core.specs.After.{after}
 use Rattle.cfs_core.specs.May.{may}
+use Rattle.cfs_core.specs.Words.{track}
 use Rattle.cfs_medium.specs.Shows.{Shows}
 use Rattle.cfs_medium.specs.World.{World}
 
@@ -30,3 +33,12 @@ ReadsMayCome =
     (ino : ℕ) (core : Core) (entry : Entry) (world : World) →
     Shows ino core world → may core (events.AdmitRead entry) ≡ true →
     Shows ino (after core (events.AdmitRead entry)) world
+
+-- and a job that comes back whose gate and size word are as they were
+abbrev pub BacksShow : Type 0
+BacksShow =
+    (ino place : ℕ) (gate : Flag) (applied : Bool) (core : Core) (world : World) →
+    Shows ino core world →
+    may core (events.Finish place (ends.Back sizes.AsBefore gate applied)) ≡ true →
+    gate ≡ (track core.tracks place).gate →
+    Shows ino (after core (events.Finish place (ends.Back sizes.AsBefore gate applied))) world

@@ -9,7 +9,8 @@
 mod recovery;
 
 ghost use Rattle.cfs_medium.specs.Laws.{BlocksMayChange, BlocksMayCome, BlocksOfOthersStay, DepictedStoresRecover, EmptyStoresDepict, FittingRemainsRecover, GatesMayClose, HeadsMayBeSet, RunsAreRecovered, ShownWorldsRecover, ShutSlotsShow, SizesMayBeSet, SlotsMayCome, SlotsOfOthersStay, TagsAreApart};
-ghost use Rattle.cfs_medium.specs.QuietEvents.{QuietEventsShow, ReadsMayCome};
+ghost use Rattle.cfs_medium.specs.SizeEvents.{SizesShow};
+ghost use Rattle.cfs_medium.specs.QuietEvents.{BacksShow, QuietEventsShow, ReadsMayCome};
 ghost use Rattle.cfs_medium.specs.BlockEvents.{FlushesShow, TagsShow, TrimsShow, WritesShow};
 ghost use Rattle.cfs_medium.specs.SlotEvents.{AdmissionsShow, MarksShow, RetiresShow, SettlesShow, SkipsShow};
 
@@ -116,6 +117,12 @@ pub fn trims_show()
     ensures { TrimsShow }
 {}
 
+/// The size word may be set for a request that a job did, and the devices show the new size, or the
+/// old one, or that it may be either.
+pub fn sizes_show()
+    ensures { SizesShow }
+{}
+
 /// The gate of a request whose bytes stand and whose size word is set may be closed, and the devices
 /// show it retired, or that it may be.
 pub fn retires_show()
@@ -126,6 +133,11 @@ pub fn retires_show()
 /// show it without a step.
 pub fn quiet_events_show()
     ensures { QuietEventsShow }
+{}
+
+/// A job may come back whose gate and size word are as they were.
+pub fn backs_show()
+    ensures { BacksShow }
 {}
 
 /// And so may a read or sync come.
