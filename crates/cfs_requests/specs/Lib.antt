@@ -1,3 +1,4 @@
 pub mod Opens
 pub mod Looks
 pub mod Made
+pub mod Steps
