@@ -6,7 +6,8 @@ use cfs_file::Bytes;
 use cfs_image::{FEWEST_BLOCKS, FEWEST_QUEUES, MOST_BLOCKS, MOST_QUEUES};
 use std::alloc::Global;
 
-/// The length of the image of a new store of so many blocks and queues, after it was read and written `count` times.
+/// The length of the image of a new store of so many blocks and queues, after it was read and
+/// written `count` times.
 pub fn read_and_write(
     alloc: Global,
     blocks: u32,

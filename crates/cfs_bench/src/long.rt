@@ -1,4 +1,5 @@
-//! Long writes to time: one of 65,536 bytes is staged in all slots of a queue, opened and closed so many times.
+//! Long writes to time: one of 65,536 bytes is staged in all slots of a queue, opened and closed
+//! so many times.
 ghost use Rattle.std.specs.Prelude.{◌<◌};
 
 use anyhow::{Context, anyhow};

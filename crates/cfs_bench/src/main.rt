@@ -1,8 +1,8 @@
-//! Workloads to time. `cfs_bench N` stages, opens and closes N requests of 4096 bytes, one after another on
-//! one slot in memory, and prints how many it was; `cfs_bench long N` does so with requests of 65,536 bytes in
-//! the slots of a queue. `cfs_bench image BLOCKS QUEUES N` makes an image, and reads and writes it N times.
-//! `cfs_bench read SCRIPT N` reads a script N times, and `cfs_bench print SCRIPT N` reads it once and prints it
-//! N times.
+//! Workloads to time. `cfs_bench N` stages, opens and closes N requests of 4096 bytes, one after
+//! another on one slot in memory, and prints how many it was; `cfs_bench long N` does so with
+//! requests of 65,536 bytes in the slots of a queue. `cfs_bench image BLOCKS QUEUES N` makes an
+//! image, and reads and writes it N times. `cfs_bench read SCRIPT N` reads a script N times, and
+//! `cfs_bench print SCRIPT N` reads it once and prints it N times.
 #![tactic(auto)]
 
 mod image;

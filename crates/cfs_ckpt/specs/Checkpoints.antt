@@ -4,7 +4,8 @@ use Rattle.cfs_pmem.specs.Images.{Seen, WordStep}
 use Rattle.cfs_ckpt.specs.declared.checkpoint.Checkpoint.{Checkpoint}
 
 -- its regions: the selector, and then the two copies
-abbrev pub seens_of : {R : Type 0} {g : _} → (R → Seen WordStep) → Checkpoint R g → List (Seen WordStep)
+abbrev pub seens_of : {R : Type 0} {g : _} → (R → Seen WordStep) → Checkpoint R g
+    → List (Seen WordStep)
 seens_of see checkpoint = see checkpoint.selector ∷ map see checkpoint.tables.items
 
 -- the faults that each of them has counted

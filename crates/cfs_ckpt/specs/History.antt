@@ -6,7 +6,8 @@ use Rattle.cfs_pmem.specs.Objects.{MomentsOf}
 use Rattle.cfs_ckpt.specs.Loads.{CanLoad, Loaded, LoadsOnly, loaded}
 
 -- the moments of one store: an image loads what one could load before the call, or what is stored
-abbrev pub StoreMoments : Loaded → List Asked → List (Seen WordStep) → List Asked → List (Seen WordStep) → Type 0
+abbrev pub StoreMoments : Loaded → List Asked → List (Seen WordStep) → List Asked
+    → List (Seen WordStep) → Type 0
 StoreMoments what asked_old old asked_new new =
     MomentsOf IsImage (λ images. CanLoad old (loaded images) ⊎ (loaded images ≡ what))
     asked_old old asked_new new
@@ -31,7 +32,8 @@ seens_behind (store ∷ before) seens = store.seens
 abbrev pub AreStores : List Asked → List (Seen WordStep) → List Stored → Type 0
 AreStores asked seens [] = Unit {0}
 AreStores asked seens (store ∷ before) =
-    StoreMoments store.what (asked_behind before asked) (seens_behind before seens) store.asked store.seens
+    StoreMoments store.what
+    (asked_behind before asked) (seens_behind before seens) store.asked store.seens
     × (store.well ≡ true → LoadsOnly store.seens store.what)
     × AreStores asked seens before
 

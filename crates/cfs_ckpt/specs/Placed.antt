@@ -39,4 +39,5 @@ PlacedFails placed old new =
 abbrev pub DoesPlaced : {T E : Type 0} → List PlacedOp → Result T E → List Asked
     → List (Seen WordStep) → List Asked → List (Seen WordStep) → Type 0
 DoesPlaced ops result asked_old old asked_new new =
-    Does (placed_asks (numbers_of old)) placed_done PlacedFails ops result asked_old old asked_new new
+    Does (placed_asks (numbers_of old)) placed_done PlacedFails ops result
+    asked_old old asked_new new

@@ -27,7 +27,8 @@ pub struct Checkpoint<R: Region> {
     word: u64,
     /// Whether a fault left the selector in doubt: a crash may leave an earlier word of it.
     unsure: bool,
-    pub ghost standing: { Selects word unsure (R.seen selector ∷ map R.seen tables.items) } by { Prim.hlevel (distinct_prop, props) },
+    pub ghost standing: { Selects word unsure
+        (R.seen selector ∷ map R.seen tables.items) } by { Prim.hlevel (distinct_prop, props) },
 }
 
 impl<R: Region + Drop> Checkpoint<R> {
@@ -166,7 +167,8 @@ impl<R: Region + Drop> Checkpoint<R> {
     fn select<P: Power>(&mut self, power: &mut P, through: u64) -> Result<(), DeviceFault>
         requires low { through < 2 ^ 63 }
         requires settled { unsure_of self.old ≡ false }
-        requires sure { IsSure (seen_at (seens_of R.seen self.old) (suc (free_copy (word_of self.old)))) }
+        requires sure { IsSure
+            (seen_at (seens_of R.seen self.old) (suc (free_copy (word_of self.old)))) }
         ensures settled { OnOk result (unsure_of self.new ≡ false) }
         ensures doubtful { OnErr result (unsure_of self.new ≡ true) }
         ensures does { IsTrue R.obeys_power → DoesPlaced

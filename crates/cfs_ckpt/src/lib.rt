@@ -1,8 +1,8 @@
-//! The checkpoint of the tree of names: two copies of its table, and a selector that tells which one
-//! counts and after which change of the journal.
+//! The checkpoint of the tree of names: two copies of its table, and a selector that tells which
+//! one counts and after which change of the journal.
 //!
-//! A store writes the copy that is not selected, persists it, and only then sets the selector. So in
-//! each image the selected copy stands whole: that of before, or the new one.
+//! A store writes the copy that is not selected, persists it, and only then sets the selector. So
+//! in each image the selected copy stands whole: that of before, or the new one.
 #![tactic(auto)]
 
 mod checkpoint;

@@ -22,8 +22,8 @@ fn record_words(node: Option<&Node>) -> [u64; NODE_WORDS]
     }
 }
 
-/// Writes the table of a tree word by word and persists it: 3,074 writing steps, or as many as there
-/// are up to the one that fails.
+/// Writes the table of a tree word by word and persists it: 3,074 writing steps, or as many as
+/// there are up to the one that fails.
 pub(crate) fn write_table<R: Region, P: Power>(
     region: &mut R,
     power: &mut P,

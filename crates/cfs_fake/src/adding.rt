@@ -68,11 +68,13 @@ pub fn both_add<R: Threads + Wait + Sync>(
         rt,
         || -> (Pass<Listed>, bool)
             requires { IsPassOf lock.now first × IsOutside first × (first.number < 4) }
-            ensures { IsPassOf lock.entry.now result.0 × IsOutside result.0 × (result.0.number ≡ first.number) }
+            ensures { IsPassOf lock.entry.now result.0 × IsOutside result.0
+                × (result.0.number ≡ first.number) }
         { add_all(rt, lock, first, count) },
         || -> (Pass<Listed>, bool)
             requires { IsPassOf lock.now second × IsOutside second × (second.number < 4) }
-            ensures { IsPassOf lock.entry.now result.0 × IsOutside result.0 × (result.0.number ≡ second.number) }
+            ensures { IsPassOf lock.entry.now result.0 × IsOutside result.0
+                × (result.0.number ≡ second.number) }
         { add_all(rt, lock, second, count) },
     )
 }

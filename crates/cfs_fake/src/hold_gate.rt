@@ -2,7 +2,8 @@ use cfs_sched::Gate;
 use std::sync::atomic::{AtomicBool, Ordering};
 use std::thread;
 
-/// A gate that holds the call of one number until it is opened, or until it has tried so many times.
+/// A gate that holds the call of one number until it is opened, or until it has tried
+/// so many times.
 #[derive(Drop)]
 pub struct HoldGate {
     call: u64,

@@ -1,4 +1,5 @@
-//! What tests of threads share: a value with a log to lie behind a lock, and a gate that holds a call.
+//! What tests of threads share: a value with a log to lie behind a lock, and a gate that
+//! holds a call.
 #![tactic(auto)]
 
 mod adding;

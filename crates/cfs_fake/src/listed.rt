@@ -55,7 +55,8 @@ impl Listed {
     pub fn add(&mut self, by: u32, word: u64) -> Result<(), AllocError>
         requires { by < 4 }
         ensures grows { Grows log_of part_of by self.old self.new }
-        ensures added { OnOk result (self.new.notes.items ≡ self.old.notes.items ++ record { by = by; word = word } ∷ []) }
+        ensures added { OnOk result (self.new.notes.items ≡
+            self.old.notes.items ++ record { by = by; word = word } ∷ []) }
         ensures none { OnErr result (self.new.notes.items ≡ self.old.notes.items) }
     {
         self.notes.push(Note { by, word })?;

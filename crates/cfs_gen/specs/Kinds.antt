@@ -7,7 +7,8 @@ use Rattle.cfs_gen.specs.declared.kind.Kind.TheVariants.{Write, Read, Sync}
 
 -- each kind is that of eight requests, one of each caller: three times a write, a read, a sync
 abbrev pub kind_at : ℕ → Kind
-kind_at index = if nat_le (index / 8 % 5) 2 then Write else (if index / 8 % 5 == 3 then Read else Sync)
+kind_at index =
+    if nat_le (index / 8 % 5) 2 then Write else (if index / 8 % 5 == 3 then Read else Sync)
 
 -- the kind of a form, if it is a request of a workload
 abbrev pub kind_of : Form → Option Kind

@@ -6,4 +6,5 @@ use Rattle.cfs_script.specs.declared.line.Line.{Line}
 -- the forms in order, numbered from here on
 abbrev pub numbered : ℕ → List Form → List Line
 numbered number [] = []
-numbered number (form ∷ forms) = record { number = number; form = form } ∷ numbered (number + 1) forms
+numbered number (form ∷ forms) =
+    record { number = number; form = form } ∷ numbered (number + 1) forms

@@ -53,4 +53,5 @@ abbrev pub summary_text : Totals → List ℕ
 summary_text totals =
     codes "gen number=" ++ (decimal totals.number ++ (codes " requests=" ++ (decimal totals.requests
     ++ (codes " writes=" ++ (decimal totals.writes ++ (codes " reads=" ++ (decimal totals.reads
-    ++ (codes " syncs=" ++ (decimal totals.syncs ++ (codes " ok=" ++ (decimal totals.ok ++ (10 ∷ []))))))))))))
+    ++ (codes " syncs=" ++ (decimal totals.syncs
+    ++ (codes " ok=" ++ (decimal totals.ok ++ (10 ∷ []))))))))))))

@@ -42,14 +42,16 @@ closed caller = forms.Close caller 0 ∷ forms.Close caller 1 ∷ []
 
 -- what a request asks for; the bytes of caller C are all 64 + C
 abbrev pub form_asked : Kind → ℕ → Drawn → Form
-form_asked Write caller drawn = forms.Pwrite caller drawn.fd drawn.offset (replicate drawn.length (64 + caller))
+form_asked Write caller drawn =
+    forms.Pwrite caller drawn.fd drawn.offset (replicate drawn.length (64 + caller))
 form_asked Read caller drawn = forms.Pread caller drawn.fd drawn.offset drawn.length
 form_asked Sync caller drawn = forms.Fsync caller drawn.fd
 
 -- the request of this number, from 0 on, and the turn behind it
 abbrev pub request_forms : ℕ → Drawn → List Form
 request_forms index drawn =
-    form_asked (kind_at index) (1 + index % 8) drawn ∷ (if drawn.has_turn then forms.Turn ∷ [] else [])
+    form_asked (kind_at index) (1 + index % 8) drawn
+    ∷ (if drawn.has_turn then forms.Turn ∷ [] else [])
 
 -- the requests of a seed below this number; each draws four times
 unfoldable pub requests_below : ℕ → ℕ → List Form
@@ -61,4 +63,5 @@ requests_below seed (suc index) =
 
 unfoldable pub workload : ℕ → ℕ → List Form
 workload number count =
-    flat_map introduced all_callers ++ (flat_map opened all_callers ++ (requests_below number count ++ (forms.Drain ∷ flat_map closed all_callers)))
+    flat_map introduced all_callers ++ (flat_map opened all_callers
+    ++ (requests_below number count ++ (forms.Drain ∷ flat_map closed all_callers)))

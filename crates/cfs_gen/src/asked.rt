@@ -19,7 +19,8 @@ pub(crate) fn add_request(
     draws: &mut Draws,
     index: u64,
 ) -> Result<(), NoMemory>
-    ensures forms { OnOk result (draft.new ≡ draft.old ++ request_forms index (drawn_from draws.old)) }
+    ensures forms { OnOk result
+        (draft.new ≡ draft.old ++ request_forms index (drawn_from draws.old)) }
     ensures draws { OnOk result (draws.new ≡ state_after draws.old 4) }
 {
     let drawn = draws.request();

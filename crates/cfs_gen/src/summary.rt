@@ -30,7 +30,14 @@ impl Model for Summary {
 
     ghost Value = { Totals };
 
-    ghost view = { λ s. record { number = s.number; requests = s.requests; writes = s.writes; reads = s.reads; syncs = s.syncs; ok = s.ok } };
+    ghost view = { λ s. record {
+      number = s.number;
+      requests = s.requests;
+      writes = s.writes;
+      reads = s.reads;
+      syncs = s.syncs;
+      ok = s.ok;
+    } };
 
     ghost invariant = { λ s. (s.writes + s.reads + s.syncs ≡ s.requests) × (s.ok ≤ s.requests) };
 }
@@ -61,7 +68,8 @@ impl Summary {
     pub fn add(&mut self, form: &Form, is_ok: bool)
         requires { self.old.requests + 1 < 2 ^ 64 }
         ensures counted { self.new ≡ counted self.old form.now is_ok }
-        ensures more { (number : ℕ) (lines : List (Form × Bool)) → self.old ≡ summary_of number lines →
+        ensures more { (number : ℕ) (lines : List (Form × Bool)) →
+            self.old ≡ summary_of number lines →
             self.new ≡ summary_of number (lines ++ (form.now, is_ok) ∷ []) }
     {
         let Some(kind) = Kind::of(form) else {

@@ -41,7 +41,8 @@ pub struct Journal<R: Region> {
     through: u64,
     /// The change of the record behind the last, if a fault left that in doubt.
     doubt: Option<Change>,
-    pub ghost standing: { Standing through changes.items doubt (map R.seen records.items) } by { Prim.hlevel (distinct_prop, tellable_prop, props) },
+    pub ghost standing: { Standing through changes.items doubt
+        (map R.seen records.items) } by { Prim.hlevel (distinct_prop, tellable_prop, props) },
     pub ghost room: { 64 ≤ vec_capacity changes },
 }
 
@@ -113,10 +114,11 @@ impl<R: Region + Drop> Journal<R> {
     }
 
     /// Appends a change: closes the gate of a record in doubt, writes the change behind the gate of
-    /// the next record, persists it and opens the gate. Answers the record's number. Takes no memory.
+    /// the next record, persists it and opens the gate. Answers the record's number.
+    /// Takes no memory.
     ///
-    /// `Full` comes exactly where 64 records stand. After `Failed`, for a device fault, the change is
-    /// in doubt, or the one that was so before: the next `append` closes its gate first.
+    /// `Full` comes exactly where 64 records stand. After `Failed`, for a device fault, the change
+    /// is in doubt, or the one that was so before: the next `append` closes its gate first.
     pub fn append<P: Power>(&mut self, power: &mut P, change: &Change) -> Result<u64, AppendRefusal>
         requires { IsTellable change.now }
         ensures full { (result ≡ Err AppendRefusal.Full) ↔ (length (changes_of self.old) ≡ 64) }

@@ -30,4 +30,5 @@ module _ {X : Type 0} (log : X → Log) (part : X → ℕ → Part) where
 
   -- no number below this one has an entry or a part
   abbrev pub IsNewTo : ℕ → X → Type 0
-  IsNewTo passes value = (number : ℕ) → number < passes → (entries_by number (log value) ≡ []) × (part value number ≡ [])
+  IsNewTo passes value = (number : ℕ) → number < passes
+      → (entries_by number (log value) ≡ []) × (part value number ≡ [])

@@ -22,7 +22,8 @@ module _ {X : Type 0} where
 
   -- the pass is of the same lock, with the same number, and may give as many numbers
   abbrev pub IsSame : Pass X → Pass X → Type 0
-  IsSame before after = (lock_of after ≡ lock_of before) × (after.number ≡ before.number) × (after.left ≡ before.left)
+  IsSame before after =
+      (lock_of after ≡ lock_of before) × (after.number ≡ before.number) × (after.left ≡ before.left)
 
   -- the pass is between two stays inside
   abbrev pub IsOutside : Pass X → Type 0
@@ -39,5 +40,7 @@ module _ {X : Type 0} where
   module _ (log : X → Log) (part : X → ℕ → Part) where
     -- numbers that a view does not keep have the entries of the start, and no part
     pub record IsNewElse (view : View X) (value : X) : Type 0 where
-      pub entries : (number : ℕ) → kept number view.books ≡ 0 → entries_by number (log value) ≡ entries_by number view.base
-      pub parts : (number : ℕ) → kept number view.books ≡ 0 → number < view.bound → part value number ≡ []
+      pub entries : (number : ℕ) → kept number view.books ≡ 0
+          → entries_by number (log value) ≡ entries_by number view.base
+      pub parts : (number : ℕ) → kept number view.books ≡ 0 → number < view.bound
+          → part value number ≡ []

@@ -1,5 +1,6 @@
 -- The rule of the lock: what holds of its words, of the value and of all that passes know.
--- The words are the next ticket, the ticket that is served, both as far as 64 bits tell, and the length of the log.
+-- The words are the next ticket, the ticket that is served, both as far as 64 bits tell, and the
+-- length of the log.
 use Rattle.std.specs.Prelude.{◌≡◌, ◌≢◌, ℕ, zero, suc, ◌+◌, ◌%◌, ◌==◌, ◌<◌, ◌≤◌, All, List, [], ◌∷◌, Option, Some, length, sum_by, if◌then◌else◌}
 use mathlib.Core.Option.{none, some}
 use mathlib.Core.Option as maybe
@@ -59,7 +60,8 @@ module _ {X : Type 0} where
   -- each ticket that is drawn and was not served is one view's, and no other ticket is
   pub record InLine (drawn served : ℕ) (views : List (View X)) : Type 0 where
     pub queue : sum_by busy views + served ≡ drawn
-    pub turns : (ticket : ℕ) → served ≤ ticket → ticket < drawn → sum_by (has_ticket ticket) views ≡ 1
+    pub turns : (ticket : ℕ) → served ≤ ticket → ticket < drawn
+        → sum_by (has_ticket ticket) views ≡ 1
     pub past : (ticket : ℕ) → ticket < served → sum_by (has_ticket ticket) views ≡ 0
     pub coming : (ticket : ℕ) → drawn ≤ ticket → sum_by (has_ticket ticket) views ≡ 0
 
@@ -81,12 +83,14 @@ module _ {X : Type 0} where
   module _ (log : X → Log) (part : X → ℕ → Part) where
     -- numbers that no pass has leave the value as it was at the start
     pub record Unused (base : Log) (bound next : ℕ) (value : X) : Type 0 where
-      pub entries : (number : ℕ) → next ≤ number → entries_by number (log value) ≡ entries_by number base
+      pub entries : (number : ℕ) → next ≤ number
+          → entries_by number (log value) ≡ entries_by number base
       pub parts : (number : ℕ) → next ≤ number → number < bound → part value number ≡ []
       pub clean : (number : ℕ) → number < bound → entries_by number base ≡ []
 
     -- what one view has to do with the rest
-    pub record Stands (base : Log) (bound served next : ℕ) (value : X) (view : View X) : Type 0 where
+    pub record Stands (base : Log) (bound served next : ℕ) (value : X)
+        (view : View X) : Type 0 where
       pub stage : StageIs served value view.stage
       pub booked : busy view ≤ places view
       pub origin : 0 < places view → (view.base ≡ base) × (view.bound ≡ bound)
@@ -106,20 +110,27 @@ module _ {X : Type 0} where
       pub line : InLine drawn served s.views
       pub numbers : Numbered next bound s.views
       pub unused : Unused base bound next value
-      pub each : (seat : ℕ) (view : View X) → get_elem? s.views seat ≡ some view → Stands base bound served next value view
+      pub each : (seat : ℕ) (view : View X) → get_elem? s.views seat ≡ some view
+          → Stands base bound served next value view
 
     -- what each step tells: of the step, the seat before, the number found and the seat after
     abbrev pub drew : Step (Option X) → Me (Option X) (View X) → ℕ → Me (Option X) (View X) → Type 0
-    drew st m found m' = (ticket : ℕ) × (found ≡ word_of ticket) × (m' ≡ (at_stage (Waits ticket) m.0, m.1))
+    drew st m found m' =
+        (ticket : ℕ) × (found ≡ word_of ticket) × (m' ≡ (at_stage (Waits ticket) m.0, m.1))
 
-    abbrev pub looked : Step (Option X) → Me (Option X) (View X) → ℕ → Me (Option X) (View X) → Type 0
+    abbrev pub looked : Step (Option X) → Me (Option X) (View X) → ℕ → Me (Option X) (View X)
+        → Type 0
     looked st m found m' = (ticket : ℕ) → m.0.stage ≡ Waits ticket
-        → (found ≡ word_of ticket → (value : X) × Finds log part m.0 value × (m' ≡ (at_stage (Holds ticket value) m.0, (0, Some value) ∷ m.1)))
+        → (found ≡ word_of ticket → (value : X) × Finds log part m.0 value
+        × (m' ≡ (at_stage (Holds ticket value) m.0, (0, Some value) ∷ m.1)))
         × (found ≢ word_of ticket → m' ≡ m)
 
-    abbrev pub counted : Step (Option X) → Me (Option X) (View X) → ℕ → Me (Option X) (View X) → Type 0
-    counted st m found m' = (ticket : ℕ) (before after : X) → m.0.stage ≡ Holds ticket before → m.1 ≡ (0, Some after) ∷ []
+    abbrev pub counted : Step (Option X) → Me (Option X) (View X) → ℕ → Me (Option X) (View X)
+        → Type 0
+    counted st m found m' = (ticket : ℕ) (before after : X) → m.0.stage ≡ Holds ticket before
+        → m.1 ≡ (0, Some after) ∷ []
         → m' ≡ (at_stage (Done ticket) (left_with log part after m.0), [])
 
-    abbrev pub freed : Step (Option X) → Me (Option X) (View X) → ℕ → Me (Option X) (View X) → Type 0
+    abbrev pub freed : Step (Option X) → Me (Option X) (View X) → ℕ → Me (Option X) (View X)
+        → Type 0
     freed st m found m' = m' ≡ (at_stage Idle m.0, m.1)

@@ -14,7 +14,8 @@ impl<X> Held<X> {
 
     /// The value, to be read and changed.
     pub fn state(&mut self) -> &mut X
-        ensures* writes_back { sem 𝓛 (Lends (the_row X.row) X.row self.entry result (with_value self.old)) }
+        ensures* writes_back { sem 𝓛
+            (Lends (the_row X.row) X.row self.entry result (with_value self.old)) }
         ensures shows { result.now ≡ self.old.value }
     {
         &mut self.value

@@ -41,7 +41,8 @@ impl<X: Recorded> TreeLock<X> {
         requires idle { seat.old.me.0.stage ≡ Idle }
         requires booked { 0 < length seat.old.me.0.books }
         ensures own { seat.new.table_id ≡ seat.old.table_id }
-        ensures drawn { (ticket : ℕ) × (result ≡ word_of ticket) × (seat.new.me ≡ (at_stage (Waits ticket) seat.old.me.0, seat.old.me.1)) }
+        ensures drawn { (ticket : ℕ) × (result ≡ word_of ticket)
+            × (seat.new.me ≡ (at_stage (Waits ticket) seat.old.me.0, seat.old.me.1)) }
     {
         self.table.shared.fetch_add::<Draw>(seat, TICKET, 1)
     }
@@ -49,11 +50,13 @@ impl<X: Recorded> TreeLock<X> {
     /// Takes the value where the ticket is served.
     fn look(&self, seat: &mut Seat<Option<X>, View<X>>, ticket: u64) -> Option<X>
         requires own { seat.old.table_id ≡ self.now.table.shared.table_id }
-        requires waits { (drawn : ℕ) × (ticket ≡ word_of drawn) × (seat.old.me.0.stage ≡ Waits drawn) }
+        requires waits { (drawn : ℕ) × (ticket ≡ word_of drawn)
+            × (seat.old.me.0.stage ≡ Waits drawn) }
         requires empty { seat.old.me.1 ≡ [] }
         ensures own { seat.new.table_id ≡ seat.old.table_id }
         ensures found { IfSome result (λ value. Finds X.log X.part seat.old.me.0 value) }
-        ensures holds { IfSome result (λ value. (drawn : ℕ) × (seat.new.me ≡ (at_stage (Holds drawn value) seat.old.me.0, (0, None) ∷ []))) }
+        ensures holds { IfSome result (λ value. (drawn : ℕ)
+            × (seat.new.me ≡ (at_stage (Holds drawn value) seat.old.me.0, (0, None) ∷ []))) }
         ensures waits { IfNone result (seat.new.me ≡ seat.old.me) }
     {
         if self.table.shared.load::<Look>(seat, SERVING) != ticket {
@@ -70,7 +73,8 @@ impl<X: Recorded> TreeLock<X> {
         requires empty { seat.old.me.1 ≡ [] }
         ensures own { seat.new.table_id ≡ seat.old.table_id }
         ensures found { Finds X.log X.part seat.old.me.0 result }
-        ensures holds { (ticket : ℕ) × (seat.new.me ≡ (at_stage (Holds ticket result) seat.old.me.0, (0, None) ∷ [])) }
+        ensures holds { (ticket : ℕ)
+            × (seat.new.me ≡ (at_stage (Holds ticket result) seat.old.me.0, (0, None) ∷ [])) }
     {
         let ticket = self.draw(seat);
         for _ in rt.forever() {
@@ -85,7 +89,8 @@ impl<X: Recorded> TreeLock<X> {
     /// Brings the value home with its entries counted, and serves the next ticket.
     fn give(&self, seat: &mut Seat<Option<X>, View<X>>, value: X)
         requires own { seat.old.table_id ≡ self.now.table.shared.table_id }
-        requires grows { (ticket : ℕ) × (found : X) × (seat.old.me.0.stage ≡ Holds ticket found) × Grows X.log X.part (first_number seat.old.me.0.books) found value }
+        requires grows { (ticket : ℕ) × (found : X) × (seat.old.me.0.stage ≡ Holds ticket found)
+            × Grows X.log X.part (first_number seat.old.me.0.books) found value }
         requires handed { seat.old.me.1 ≡ (0, None) ∷ [] }
         ensures own { seat.new.table_id ≡ seat.old.table_id }
         ensures left { seat.new.me ≡ (left_with X.log X.part value seat.old.me.0, []) }
@@ -103,7 +108,8 @@ impl<X: Recorded> TreeLock<X> {
         requires outside { IsOutside pass.old }
         ensures same { IsSame pass.old pass.new }
         ensures found { Finds X.log X.part (knows pass.old) result.value }
-        ensures inside { (ticket : ℕ) × (knows pass.new ≡ at_stage (Holds ticket result.value) (knows pass.old)) }
+        ensures inside { (ticket : ℕ)
+            × (knows pass.new ≡ at_stage (Holds ticket result.value) (knows pass.old)) }
     {
         let value = self.take(rt, &mut pass.seat);
         pass.inside = true;
@@ -113,7 +119,8 @@ impl<X: Recorded> TreeLock<X> {
     /// Gives the value back, with its new entries counted, and lets the next pass in.
     pub fn leave(&self, pass: &mut Pass<X>, held: Held<X>)
         requires own { IsPassOf self.now pass.old }
-        requires grows { (found : X) × IsInside pass.old found × Grows X.log X.part pass.old.number found held.value }
+        requires grows { (found : X) × IsInside pass.old found
+            × Grows X.log X.part pass.old.number found held.value }
         ensures same { IsSame pass.old pass.new }
         ensures outside { IsOutside pass.new }
         ensures left { knows pass.new ≡ left_with X.log X.part held.value (knows pass.old) }

@@ -19,8 +19,8 @@ pub record MakesRoom (full : Bool) (ops : List PlacedOp) (ok unsure_old unsure_n
       × AllDone (placed_asks (numbers_of old)) placed_done ops asked_old old asked_new new
   pub front : full ≡ true → ok ≡ false → StopsAt ops unsure_new asked_old old asked_new new
 
--- What a call finds and leaves: the regions of the checkpoint, whether its selector is in doubt, the
--- region of the next record, and the change in doubt.
+-- What a call finds and leaves: the regions of the checkpoint, whether its selector is in doubt,
+-- the region of the next record, and the change in doubt.
 pub record Found : Type 0 where
   pub tables : List (Seen WordStep)
   pub unsure : Bool

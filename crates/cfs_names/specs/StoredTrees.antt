@@ -30,13 +30,16 @@ abbrev pub last_number : {R : Type 0} {g : _} → StoredTree R g → ℕ
 last_number stored = through_of stored.journal + length (changes_of stored.journal)
 
 -- its regions: the selector, the two copies and the records
-abbrev pub tables_in : {R : Type 0} {g : _} → (R → Seen WordStep) → StoredTree R g → List (Seen WordStep)
+abbrev pub tables_in : {R : Type 0} {g : _} → (R → Seen WordStep) → StoredTree R g
+    → List (Seen WordStep)
 tables_in see stored = seens_of see stored.checkpoint
 
-abbrev pub records_in : {R : Type 0} {g : _} → (R → Seen WordStep) → StoredTree R g → List (Seen WordStep)
+abbrev pub records_in : {R : Type 0} {g : _} → (R → Seen WordStep) → StoredTree R g
+    → List (Seen WordStep)
 records_in see stored = map see (regions_of stored.journal)
 
-abbrev pub seens_in : {R : Type 0} {g : _} → (R → Seen WordStep) → StoredTree R g → List (Seen WordStep)
+abbrev pub seens_in : {R : Type 0} {g : _} → (R → Seen WordStep) → StoredTree R g
+    → List (Seen WordStep)
 seens_in see stored = tables_in see stored ++ records_in see stored
 
 -- what a call that stores a change finds and leaves; the place is that of the next record

@@ -31,8 +31,10 @@ pub struct StoredTree<R: Region> {
     tree: Tree,
     journal: Journal<R>,
     checkpoint: Checkpoint<R>,
-    pub ghost behind: { AreBehind (through_of journal) (changes_of journal) tree (seens_of R.seen checkpoint) },
-    pub ghost distinct: { AreDistinct (all_devices (seens_of R.seen checkpoint ++ map R.seen (regions_of journal))) } by { Prim.hlevel (distinct_prop, props) },
+    pub ghost behind: { AreBehind (through_of journal) (changes_of journal) tree
+        (seens_of R.seen checkpoint) },
+    pub ghost distinct: { AreDistinct (all_devices (seens_of R.seen checkpoint
+        ++ map R.seen (regions_of journal))) } by { Prim.hlevel (distinct_prop, props) },
 }
 
 impl<R: Region + Drop> StoredTree<R> {
@@ -41,7 +43,8 @@ impl<R: Region + Drop> StoredTree<R> {
     /// The tree with its journal and its checkpoint: whatever a crash loads of the checkpoint, the
     /// journal holds the changes from there to the tree.
     pub fn new(tree: Tree, journal: Journal<R>, checkpoint: Checkpoint<R>) -> StoredTree<R>
-        requires behind { AreBehind (through_of journal) (changes_of journal) tree (seens_of R.seen checkpoint) }
+        requires behind { AreBehind (through_of journal) (changes_of journal) tree
+            (seens_of R.seen checkpoint) }
         requires distinct { AreDistinct
             (all_devices (seens_of R.seen checkpoint ++ map R.seen (regions_of journal))) }
         ensures tree { tree_of result ≡ tree }
@@ -138,8 +141,8 @@ impl<R: Region + Drop> StoredTree<R> {
             (table_faults R.faults self.old) (table_faults R.faults self.new)
             (next_faults R.faults (place_in self.old) self.old)
             (next_faults R.faults (place_in self.old) self.new) result }
-        // At each moment a crash recovers the tree, with the change in doubt or without, or the tree
-        // after this change.
+        // At each moment a crash recovers the tree, with the change in doubt or without, or the
+        // tree after this change.
         ensures moments { MomentsOf IsImage
             (Recovers (tree_of self.old) (doubt_in self.old) (Change.Create node.now))
             (P.asked power.old) (seens_in R.seen self.old)
@@ -184,8 +187,8 @@ impl<R: Region + Drop> StoredTree<R> {
             (table_faults R.faults self.old) (table_faults R.faults self.new)
             (next_faults R.faults (place_in self.old) self.old)
             (next_faults R.faults (place_in self.old) self.new) result }
-        // At each moment a crash recovers the tree, with the change in doubt or without, or the tree
-        // after this change.
+        // At each moment a crash recovers the tree, with the change in doubt or without, or the
+        // tree after this change.
         ensures moments { MomentsOf IsImage
             (Recovers (tree_of self.old) (doubt_in self.old) (Change.Create node.now))
             (P.asked power.old) (seens_in R.seen self.old)
@@ -208,11 +211,12 @@ impl<R: Region + Drop> StoredTree<R> {
         Ok(())
     }
 
-    /// Removes a node from the tree, as `create` adds one. It takes no memory: NoMemory comes exactly
-    /// where the selector has no room for the number of the last change.
+    /// Removes a node from the tree, as `create` adds one. It takes no memory: NoMemory comes
+    /// exactly where the selector has no room for the number of the last change.
     pub fn remove<P: Power>(&mut self, power: &mut P, node: &Node) -> Result<(), StoreRefusal>
         requires { CanLeave (tree_of self.old) node.now }
-        ensures makes { MakesChange (is_full self.old) (Change.Remove node.now.rec node.now.ino) result
+        ensures makes { MakesChange
+            (is_full self.old) (Change.Remove node.now.rec node.now.ino) result
             (held_of self.old) (held_of self.new) }
         ensures lacks { (result ≡ Err StoreRefusal.NoMemory) ↔ LacksRoom self.old }
         ensures unchanged { result ≡ Err StoreRefusal.NoMemory →
@@ -230,10 +234,11 @@ impl<R: Region + Drop> StoredTree<R> {
             (table_faults R.faults self.old) (table_faults R.faults self.new)
             (next_faults R.faults (place_in self.old) self.old)
             (next_faults R.faults (place_in self.old) self.new) result }
-        // At each moment a crash recovers the tree, with the change in doubt or without, or the tree
-        // after this change.
+        // At each moment a crash recovers the tree, with the change in doubt or without, or the
+        // tree after this change.
         ensures moments { MomentsOf IsImage
-            (Recovers (tree_of self.old) (doubt_in self.old) (Change.Remove node.now.rec node.now.ino))
+            (Recovers (tree_of self.old) (doubt_in self.old)
+            (Change.Remove node.now.rec node.now.ino))
             (P.asked power.old) (seens_in R.seen self.old)
             (P.asked power.new) (seens_in R.seen self.new) }
     {
@@ -249,8 +254,8 @@ impl<R: Region + Drop> StoredTree<R> {
         Ok(())
     }
 
-    /// Moves a node, and removes the one that it replaces, as `remove` removes one. A node that stands
-    /// so already is moved as well: the caller who knows that it does calls nothing.
+    /// Moves a node, and removes the one that it replaces, as `remove` removes one. A node that
+    /// stands so already is moved as well: the caller who knows that it does calls nothing.
     pub fn move_node<P: Power>(&mut self, power: &mut P, moved: &Moved) -> Result<(), StoreRefusal>
         requires { CanMove (tree_of self.old) moved.now }
         ensures makes { MakesChange (is_full self.old) (change_of moved.now) result
@@ -271,8 +276,8 @@ impl<R: Region + Drop> StoredTree<R> {
             (table_faults R.faults self.old) (table_faults R.faults self.new)
             (next_faults R.faults (place_in self.old) self.old)
             (next_faults R.faults (place_in self.old) self.new) result }
-        // At each moment a crash recovers the tree, with the change in doubt or without, or the tree
-        // after this change.
+        // At each moment a crash recovers the tree, with the change in doubt or without, or the
+        // tree after this change.
         ensures moments { MomentsOf IsImage
             (Recovers (tree_of self.old) (doubt_in self.old) (change_of moved.now))
             (P.asked power.old) (seens_in R.seen self.old)

@@ -136,8 +136,8 @@ impl<T: Numbered + Drop> Pool<T> {
         Ok(pop_lowest(&mut self.heap, k))
     }
 
-    /// Takes the `k` items of the lowest numbers, ascending; each place of the answer has one. Short
-    /// exactly where fewer are free, and then nothing changes.
+    /// Takes the `k` items of the lowest numbers, ascending; each place of the answer has one.
+    /// Short exactly where fewer are free, and then nothing changes.
     pub fn take(&mut self, k: u32) -> Result<ArrayVec<Option<T>, FEW>, Short>
         requires { k ≤ 2 }
         ensures short { IsErr result ↔ (length self.old.free < k) }

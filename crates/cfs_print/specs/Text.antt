@@ -58,7 +58,8 @@ pieces_text (piece ∷ pieces) = piece_text piece ++ pieces_text pieces
 -- each entry behind a space
 abbrev pub entry_pieces : List Listed → List Piece
 entry_pieces [] = []
-entry_pieces (entry ∷ entries) = Key (codes " ") ∷ Number entry.place ∷ Key (letter_text entry.letter) ∷ entry_pieces entries
+entry_pieces (entry ∷ entries) =
+    Key (codes " ") ∷ Number entry.place ∷ Key (letter_text entry.letter) ∷ entry_pieces entries
 
 -- each place behind a comma
 abbrev pub more_places : List ℕ → List Piece
@@ -72,33 +73,46 @@ place_pieces (place ∷ places) = Number place ∷ more_places places
 
 -- what a line answers, one row an answer
 abbrev pub answer_pieces : Printed → List Piece
-answer_pieces (answers.Opened place fd ino) = Key (codes "ok ns=") ∷ Number place ∷ Key (codes " fd=") ∷ Number fd ∷ Key (codes " ino=") ∷ Number ino ∷ []
-answer_pieces (answers.Made place ino) = Key (codes "ok ns=") ∷ Number place ∷ Key (codes " ino=") ∷ Number ino ∷ []
+answer_pieces (answers.Opened place fd ino) =
+    Key (codes "ok ns=") ∷ Number place ∷ Key (codes " fd=") ∷ Number fd
+    ∷ Key (codes " ino=") ∷ Number ino ∷ []
+answer_pieces (answers.Made place ino) =
+    Key (codes "ok ns=") ∷ Number place ∷ Key (codes " ino=") ∷ Number ino ∷ []
 answer_pieces (answers.Named place) = Key (codes "ok ns=") ∷ Number place ∷ []
-answer_pieces (answers.Wrote ino place offset count) = Key (codes "ok ino=") ∷ Number ino ∷ Key (codes " place=") ∷ Number place ∷ Key (codes " off=") ∷ Number offset ∷ Key (codes " n=") ∷ Number count ∷ []
+answer_pieces (answers.Wrote ino place offset count) =
+    Key (codes "ok ino=") ∷ Number ino ∷ Key (codes " place=") ∷ Number place
+    ∷ Key (codes " off=") ∷ Number offset ∷ Key (codes " n=") ∷ Number count ∷ []
 answer_pieces answers.WroteNothing = Key (codes "ok n=0") ∷ []
-answer_pieces (answers.Got ino place bytes) = Key (codes "ok ino=") ∷ Number ino ∷ Key (codes " place=") ∷ Number place ∷ Key (codes " n=") ∷ Number (length bytes) ∷ Key (codes " h:") ∷ Hex bytes ∷ []
-answer_pieces (answers.Placed ino place) = Key (codes "ok ino=") ∷ Number ino ∷ Key (codes " place=") ∷ Number place ∷ []
+answer_pieces (answers.Got ino place bytes) =
+    Key (codes "ok ino=") ∷ Number ino ∷ Key (codes " place=") ∷ Number place
+    ∷ Key (codes " n=") ∷ Number (length bytes) ∷ Key (codes " h:") ∷ Hex bytes ∷ []
+answer_pieces (answers.Placed ino place) =
+    Key (codes "ok ino=") ∷ Number ino ∷ Key (codes " place=") ∷ Number place ∷ []
 answer_pieces (answers.Sought offset) = Key (codes "ok off=") ∷ Number offset ∷ []
 answer_pieces (answers.Left blocks) = Key (codes "ok left=") ∷ Number blocks ∷ []
 answer_pieces answers.Fine = Key (codes "ok") ∷ []
 answer_pieces answers.More = Key (codes "ok more") ∷ []
 answer_pieces (answers.Unfinished blocks) = Key (codes "unfinished left=") ∷ Number blocks ∷ []
 answer_pieces (answers.Freed blocks) = Key (codes "ok freed=") ∷ Number blocks ∷ []
-answer_pieces (answers.Drained turns blocks) = Key (codes "ok turns=") ∷ Number turns ∷ Key (codes " freed=") ∷ Number blocks ∷ []
+answer_pieces (answers.Drained turns blocks) =
+    Key (codes "ok turns=") ∷ Number turns ∷ Key (codes " freed=") ∷ Number blocks ∷ []
 answer_pieces (answers.Queued entries) = Key (codes "ok") ∷ entry_pieces entries
 answer_pieces (answers.Replayed entries) = Key (codes "ok replayed=") ∷ Number entries ∷ []
-answer_pieces (answers.RefusedAt error place) = Key (error_name error) ∷ Key (codes " at=") ∷ Number place ∷ []
+answer_pieces (answers.RefusedAt error place) =
+    Key (error_name error) ∷ Key (codes " at=") ∷ Number place ∷ []
 answer_pieces (answers.Refused error) = Key (error_name error) ∷ []
 answer_pieces (answers.NoQueue queues) = Key (codes "EMFILE queues=") ∷ Number queues ∷ []
 answer_pieces answers.NoRecord = Key (codes "ENFILE records=256") ∷ []
 answer_pieces answers.NoNumber = Key (codes "ENFILE next=4294967296") ∷ []
 answer_pieces (answers.Full places) = Key (codes "EAGAIN places=") ∷ place_pieces places
-answer_pieces (answers.Short need free) = Key (codes "ENOSPC need=") ∷ Number need ∷ Key (codes " free=") ∷ Number free ∷ []
+answer_pieces (answers.Short need free) =
+    Key (codes "ENOSPC need=") ∷ Number need ∷ Key (codes " free=") ∷ Number free ∷ []
 answer_pieces answers.Faulty = Key (codes "EIO") ∷ []
 answer_pieces answers.NoMemory = Key (codes "ENOMEM") ∷ []
 answer_pieces (answers.Pending on) = Key (codes "pending on=") ∷ Number on ∷ []
-answer_pieces (answers.PendingRead ino place on) = Key (codes "pending ino=") ∷ Number ino ∷ Key (codes " place=") ∷ Number place ∷ Key (codes " on=") ∷ Number on ∷ []
+answer_pieces (answers.PendingRead ino place on) =
+    Key (codes "pending ino=") ∷ Number ino ∷ Key (codes " place=") ∷ Number place
+    ∷ Key (codes " on=") ∷ Number on ∷ []
 answer_pieces answers.Nothing = Key (codes "none") ∷ []
 answer_pieces answers.Stopped = Key (codes "stopped") ∷ []
 answer_pieces answers.Unmounted = Key (codes "unmounted") ∷ []
@@ -137,7 +151,8 @@ abbrev pub AreLines : List OutLine → Type 0
 AreLines [] = Unit {0}
 AreLines (line ∷ lines) = IsLine line × AreLines lines
 
--- whether it is the answer of a `queue` line, which without an entry reads as the plain `ok` of other lines
+-- whether it is the answer of a `queue` line, which without an entry reads as the plain `ok`
+-- of other lines
 abbrev pub is_queue : Printed → Bool
 is_queue (answers.Queued entries) = true
 is_queue other = false
@@ -147,8 +162,10 @@ kinds lines = map (λ line. is_queue line.answer) lines
 
 -- a line's text is that of no other line of its kind
 abbrev pub LinesAreTold : Type 0
-LinesAreTold = (a b : OutLine) → IsLine a → IsLine b → is_queue a.answer ≡ is_queue b.answer → line_text a ≡ line_text b → a ≡ b
+LinesAreTold = (a b : OutLine) → IsLine a → IsLine b → is_queue a.answer ≡ is_queue b.answer
+    → line_text a ≡ line_text b → a ≡ b
 
 -- and the text of lines is that of no other lines of their kinds
 abbrev pub OutputsAreTold : Type 0
-OutputsAreTold = (a b : List OutLine) → AreLines a → AreLines b → kinds a ≡ kinds b → lines_text a ≡ lines_text b → a ≡ b
+OutputsAreTold = (a b : List OutLine) → AreLines a → AreLines b → kinds a ≡ kinds b
+    → lines_text a ≡ lines_text b → a ≡ b

@@ -23,7 +23,8 @@ pub fn print_line(alloc: Global, line: &OutLine) -> Result<Bytes, NoMemory>
 
 /// Adds an answer.
 fn print_answer(alloc: Global, text: &mut String, answer: &Printed) -> Result<(), NoMemory>
-    ensures { OnOk result (string_bytes text.new ≡ string_bytes text.old ++ answer_text answer.now) }
+    ensures { OnOk result
+        (string_bytes text.new ≡ string_bytes text.old ++ answer_text answer.now) }
 {
     match answer {
         Printed::Opened { place, fd, ino } => write!(text, "ok ns={place} fd={fd} ino={ino}")?,
@@ -80,7 +81,8 @@ fn print_got(
     place: u64,
     bytes: &Bytes,
 ) -> Result<(), NoMemory>
-    ensures { OnOk result (string_bytes text.new ≡ string_bytes text.old ++ answer_text (Printed.Got ino place bytes.now)) }
+    ensures { OnOk result (string_bytes text.new ≡ string_bytes text.old
+        ++ answer_text (Printed.Got ino place bytes.now)) }
 {
     let count = bytes.len();
     write!(text, "ok ino={ino} place={place} n={count} h:")?;
@@ -91,7 +93,8 @@ fn print_got(
 
 /// Adds the entries of a queue.
 fn print_entries(text: &mut String, entries: &[Listed]) -> Result<(), NoMemory>
-    ensures { OnOk result (string_bytes text.new ≡ string_bytes text.old ++ answer_text (Printed.Queued entries.now)) }
+    ensures { OnOk result (string_bytes text.new ≡ string_bytes text.old
+        ++ answer_text (Printed.Queued entries.now)) }
 {
     text.push_str("ok")?;
     'entries: for entry in entries {
@@ -102,7 +105,8 @@ fn print_entries(text: &mut String, entries: &[Listed]) -> Result<(), NoMemory>
 
 /// Adds an entry of a queue, behind a space.
 fn print_entry(text: &mut String, entry: Listed) -> Result<(), NoMemory>
-    ensures { OnOk result (string_bytes text.new ≡ string_bytes text.old ++ pieces_text (entry_pieces (entry ∷ []))) }
+    ensures { OnOk result (string_bytes text.new ≡ string_bytes text.old
+        ++ pieces_text (entry_pieces (entry ∷ []))) }
 {
     let place = entry.place;
     write!(text, " {place}")?;
@@ -144,7 +148,8 @@ fn error_name(error: Posix) -> &'static str
 
 /// Adds the places that hold a queue's slots.
 fn print_places(text: &mut String, places: &[u64]) -> Result<(), NoMemory>
-    ensures { OnOk result (string_bytes text.new ≡ string_bytes text.old ++ answer_text (Printed.Full places.now)) }
+    ensures { OnOk result (string_bytes text.new ≡ string_bytes text.old
+        ++ answer_text (Printed.Full places.now)) }
 {
     text.push_str("EAGAIN places=")?;
     if let [first, rest @ ..] = places {
@@ -156,7 +161,8 @@ fn print_places(text: &mut String, places: &[u64]) -> Result<(), NoMemory>
 
 /// Adds places, each behind a comma.
 fn print_more(text: &mut String, places: &[u64]) -> Result<(), NoMemory>
-    ensures { OnOk result (string_bytes text.new ≡ string_bytes text.old ++ pieces_text (more_places places.now)) }
+    ensures { OnOk result (string_bytes text.new ≡ string_bytes text.old
+        ++ pieces_text (more_places places.now)) }
 {
     'places: for place in places {
         write!(text, ",{place}")?;

@@ -33,7 +33,9 @@ held_again (free x) = refl
 held_again (out place) = refl
 
 abbrev pub held_code : {X : Type 0} → Coded X → Coded (Held X)
-held_code {X} code = code_by (X ⊎ ℕ) (coded⊎ code coded_ℕ) (λ one. either_of one) (λ one. held_by one) (λ one. held_again one)
+held_code {X} code =
+    code_by (X ⊎ ℕ) (coded⊎ code coded_ℕ)
+    (λ one. either_of one) (λ one. held_by one) (λ one. held_again one)
 
 abbrev pub slots_code : {X : Type 0} → Coded X → Coded (Slots X)
 slots_code {X} code =
@@ -50,7 +52,8 @@ free_in [] = []
 free_in (free x ∷ held) = x ∷ free_in held
 free_in (out place ∷ held) = free_in held
 
--- the numbers and the places of those that are out, by ascending number, where the first number is this
+-- the numbers and the places of those that are out, by ascending number, where the first
+-- number is this
 abbrev pub out_from : {X : Type 0} → ℕ → List (Held X) → List (ℕ × ℕ)
 out_from number [] = []
 out_from number (free x ∷ held) = out_from (number + 1) held
@@ -104,8 +107,10 @@ AreOwn seen first [] = Unit {0}
 AreOwn seen first (free x ∷ held) = ((seen x).device ≡ first) × AreOwn seen (first + 1) held
 AreOwn seen first (out place ∷ held) = AreOwn seen (first + 1) held
 
--- What holds of the queue of this number: each of its 16 numbers has its own free slot, or its slot is out.
-pub record IsQueue {X : Type 0} (seen : X → Seen WordStep) (queue : ℕ) (held : List (Held X)) : Type 0 where
+-- What holds of the queue of this number: each of its 16 numbers has its own free slot, or its
+-- slot is out.
+pub record IsQueue {X : Type 0} (seen : X → Seen WordStep) (queue : ℕ)
+    (held : List (Held X)) : Type 0 where
   pub sixteen : length held ≡ 16
   pub own : AreOwn seen (first_of queue) held
 
@@ -122,7 +127,8 @@ place_at (Some (out place)) = Some place
 -- The devices are those of slots of the queue, from this one on, ascending.
 abbrev pub AreRising : ℕ → ℕ → List ℕ → Type 0
 AreRising queue from [] = Unit {0}
-AreRising queue from (device ∷ devices) = (from ≤ device) × (queue_of device ≡ queue) × AreRising queue (device + 1) devices
+AreRising queue from (device ∷ devices) =
+    (from ≤ device) × (queue_of device ≡ queue) × AreRising queue (device + 1) devices
 
 -- They are a chain: of one queue, ascending, and at least one.
 abbrev pub IsChain : List ℕ → Type 0

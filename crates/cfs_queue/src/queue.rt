@@ -40,7 +40,8 @@ impl<R: Region + Drop> Queue<R> {
     /// The queue of this number with its 16 slots, ascending, all of them free.
     pub fn new(number: u32, slots: FixedVec<Slot<R>, QUEUE_SLOTS>) -> Queue<R>
         requires { devices_in R.seen (of_slots slots) ≡ devices_of number }
-        ensures { result ≡ record { number = number; held = map (λ slot. free slot) (of_slots slots) } }
+        ensures { result ≡
+            record { number = number; held = map (λ slot. free slot) (of_slots slots) } }
     {
         Queue {
             number,
@@ -70,21 +71,22 @@ impl<R: Region + Drop> Queue<R> {
         count_free(self.rows.as_slice()) == QUEUE_SLOTS
     }
 
-    /// The place of the slot of a number that is out, and 0 where that is not known; none exactly where the slot is free, or no slot
-    /// has that number.
+    /// The place of the slot of a number that is out, and 0 where that is not known; none exactly
+    /// where the slot is free, or no slot has that number.
     pub fn place(&self, slot: u32) -> Option<u64>
         ensures { result ≡ place_at (slice_get self.now.held slot) }
     {
         rows::place_at(self.rows.as_slice(), slot as usize)
     }
 
-    /// Takes the free slot of the lowest number, which is out from then on, at place 0. Full exactly where no slot is free, and then
-    /// nothing changes.
+    /// Takes the free slot of the lowest number, which is out from then on, at place 0. Full
+    /// exactly where no slot is free, and then nothing changes.
     pub fn take(&mut self) -> Result<Slot<R>, Full>
         ensures full { IsErr result ↔ (free_slots self.old ≡ []) }
         ensures places { IfErr result (λ full. AreSorted (places_in self.old.held) full.places) }
         ensures unchanged { OnErr result (self.new ≡ self.old) }
-        ensures lowest { IfOk result (λ slot. free_slots self.old ≡ of_slot slot ∷ free_slots self.new) }
+        ensures lowest { IfOk result (λ slot.
+            free_slots self.old ≡ of_slot slot ∷ free_slots self.new) }
         ensures own { IfOk result (λ slot. IsOf self.old.number (R.seen (of_slot slot)).device) }
         ensures taken { IfOk result (λ slot. self.new ≡
             with_held (number_of (R.seen (of_slot slot)).device) (out 0) self.old) }
@@ -97,20 +99,23 @@ impl<R: Region + Drop> Queue<R> {
         Ok(slot)
     }
 
-    /// Takes the `m` free slots of the lowest numbers, ascending, 1 to 16, which are out from then on, at place 0. Few exactly where
-    /// fewer are free, and then nothing changes.
+    /// Takes the `m` free slots of the lowest numbers, ascending, 1 to 16, which are out from then
+    /// on, at place 0. Few exactly where fewer are free, and then nothing changes.
     pub fn take_many(&mut self, m: u32) -> Result<FixedVec<Slot<R>, QUEUE_SLOTS>, Few>
         requires some { 1 ≤ m }
         requires most { m ≤ 16 }
         ensures few { IsErr result ↔ (length (free_slots self.old) < m) }
         ensures need { IfErr result (λ few. few.need ≡ m) }
-        ensures places { IfErr result (λ few. AreSorted (places_in self.old.held) few.places.items) }
+        ensures places { IfErr result (λ few.
+            AreSorted (places_in self.old.held) few.places.items) }
         ensures unchanged { OnErr result (self.new ≡ self.old) }
         ensures count { IfOk result (λ slots. length (of_slots slots) ≡ m) }
-        ensures lowest { IfOk result (λ slots. free_slots self.old ≡ of_slots slots ++ free_slots self.new) }
+        ensures lowest { IfOk result (λ slots.
+            free_slots self.old ≡ of_slots slots ++ free_slots self.new) }
         // They are a chain of this queue's slots, as a long write takes it.
         ensures own { IfOk result (λ slots.
-            AreRising self.old.number (first_of self.old.number) (devices_in R.seen (of_slots slots))) }
+            AreRising self.old.number (first_of self.old.number)
+            (devices_in R.seen (of_slots slots))) }
         ensures chain { IfOk result (λ slots. IsChain (devices_in R.seen (of_slots slots))) }
         ensures taken { IfOk result (λ slots. self.new ≡ record self.old {
           held = all_out (slot_numbers R.seen (of_slots slots)) self.old.held;
@@ -136,8 +141,10 @@ impl<R: Region + Drop> Queue<R> {
     /// Takes a slot of this queue back, which is out.
     pub fn give_back(&mut self, slot: Slot<R>)
         requires own { IsOf self.old.number (R.seen (of_slot slot)).device }
-        requires out { IsSome (place_at (slice_get self.old.held (number_of (R.seen (of_slot slot)).device))) }
-        ensures { self.new ≡ with_held (number_of (R.seen (of_slot slot)).device) (free (of_slot slot)) self.old }
+        requires out { IsSome
+            (place_at (slice_get self.old.held (number_of (R.seen (of_slot slot)).device))) }
+        ensures { self.new ≡ with_held (number_of (R.seen (of_slot slot)).device)
+            (free (of_slot slot)) self.old }
     {
         let number = (slot.device() - FIRST_SLOT) % 16;
         put(&mut self.rows, number as usize, Kept::Free(slot));

@@ -28,11 +28,13 @@ fn first_free<R: Region>(rows: &[Kept<R>]) -> Option<usize>
     rows.iter().position(|row| row.is_free())
 }
 
-/// Takes the free slot of the lowest number, which is out from then on; none exactly where no slot is free.
+/// Takes the free slot of the lowest number, which is out from then on; none exactly where no
+/// slot is free.
 pub(crate) fn take_first<R: Region + Drop>(
     rows: &mut ArrayVec<Kept<R>, QUEUE_SLOTS>,
 ) -> Option<Slot<R>>
-    ensures first { IfSome result (λ slot. TakesFirst (seen_all rows.old.items) (of_slot slot) (seen_all rows.new.items)) }
+    ensures first { IfSome result (λ slot.
+        TakesFirst (seen_all rows.old.items) (of_slot slot) (seen_all rows.new.items)) }
     ensures none { IfNone result (free_in (seen_all rows.old.items) ≡ []) }
     ensures unchanged { IfNone result (rows.new ≡ rows.old) }
 {
@@ -85,7 +87,8 @@ pub(crate) fn take_lowest<R: Region + Drop>(
     count: usize,
 ) -> FixedVec<Slot<R>, QUEUE_SLOTS>
     requires { count ≤ 16 }
-    ensures taken { TakesMany (seen_all rows.old.items) (of_slots result) (seen_all rows.new.items) }
+    ensures taken { TakesMany
+        (seen_all rows.old.items) (of_slots result) (seen_all rows.new.items) }
     ensures most { length (of_slots result) ≤ count }
     ensures all { length (of_slots result) < count → free_in (seen_all rows.new.items) ≡ [] }
 {
@@ -99,7 +102,8 @@ pub(crate) fn take_lowest<R: Region + Drop>(
     slots
 }
 
-/// The place of the slot that is out at a number; none exactly where a free one is there, or no number.
+/// The place of the slot that is out at a number; none exactly where a free one is there,
+/// or no number.
 pub(crate) fn place_at<R: Region>(rows: &[Kept<R>], at: usize) -> Option<u64>
     ensures { result ≡ place_seen (slice_get (seen_all rows.now) at) }
 {

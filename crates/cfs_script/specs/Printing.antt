@@ -22,4 +22,5 @@ lines_text (line ∷ lines) = form_text line.form ++ (10 ∷ lines_text lines)
 -- the same forms in the same order, numbered from here on
 abbrev pub renumbered : ℕ → List Line → List Line
 renumbered number [] = []
-renumbered number (line ∷ lines) = record { number = number; form = line.form } ∷ renumbered (number + 1) lines
+renumbered number (line ∷ lines) =
+    record { number = number; form = line.form } ∷ renumbered (number + 1) lines

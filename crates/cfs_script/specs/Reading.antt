@@ -12,7 +12,8 @@ use Rattle.cfs_script.specs.Table.{callers, verb_word, verb_kinds, verb_form, or
 -- the first of the items whose word this is
 abbrev pub named : {X : Type 0} → (X → List ℕ) → List X → List ℕ → Option X
 named word_of [] word = None
-named word_of (item ∷ items) word = if bytes_eq word (word_of item) then Some item else named word_of items word
+named word_of (item ∷ items) word =
+    if bytes_eq word (word_of item) then Some item else named word_of items word
 
 abbrev pub or_else : {X : Type 0} → Option X → Option X → Option X
 or_else (Some x) other = Some x
@@ -27,7 +28,9 @@ unfoldable pub verb_of_names : List ℕ → Option Verb
 verb_of_names word = named verb_word names_verbs word
 
 abbrev pub bytes_verbs : List Verb
-bytes_verbs = verbs.Read ∷ verbs.Write ∷ verbs.Pread ∷ verbs.Pwrite ∷ verbs.TryPwrite ∷ verbs.Lseek ∷ verbs.Ftruncate ∷ []
+bytes_verbs =
+    verbs.Read ∷ verbs.Write ∷ verbs.Pread ∷ verbs.Pwrite ∷ verbs.TryPwrite ∷ verbs.Lseek
+    ∷ verbs.Ftruncate ∷ []
 
 unfoldable pub verb_of_bytes : List ℕ → Option Verb
 verb_of_bytes word = named verb_word bytes_verbs word
@@ -42,13 +45,17 @@ abbrev pub verb_of : List ℕ → Option Verb
 verb_of word = or_else (verb_of_names word) (or_else (verb_of_bytes word) (verb_of_files word))
 
 abbrev pub workers_orders : List Order
-workers_orders = orders.Dispatch ∷ orders.Apply ∷ orders.Finish ∷ orders.Skip ∷ orders.Trim ∷ orders.Settle ∷ orders.Turn ∷ orders.Drain ∷ []
+workers_orders =
+    orders.Dispatch ∷ orders.Apply ∷ orders.Finish ∷ orders.Skip ∷ orders.Trim ∷ orders.Settle
+    ∷ orders.Turn ∷ orders.Drain ∷ []
 
 unfoldable pub order_of_workers : List ℕ → Option Order
 order_of_workers word = named order_word workers_orders word
 
 abbrev pub runs_orders : List Order
-runs_orders = orders.Caller ∷ orders.Queue ∷ orders.Stop ∷ orders.Crash ∷ orders.Mount ∷ orders.Fail ∷ orders.FailRead ∷ orders.Cut ∷ []
+runs_orders =
+    orders.Caller ∷ orders.Queue ∷ orders.Stop ∷ orders.Crash ∷ orders.Mount ∷ orders.Fail
+    ∷ orders.FailRead ∷ orders.Cut ∷ []
 
 unfoldable pub order_of_runs : List ℕ → Option Order
 order_of_runs word = named order_word runs_orders word

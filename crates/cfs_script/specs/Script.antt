@@ -38,14 +38,17 @@ is_passed_over (b ∷ bytes) = b == 35 && list_all is_printed (b ∷ bytes)
 -- the lines that are not passed over, with their numbers, from this number on
 abbrev pub spoken : ℕ → List (List ℕ) → List (ℕ × List ℕ)
 spoken number [] = []
-spoken number (text ∷ texts) = if is_passed_over text then spoken (number + 1) texts else (number, text) ∷ spoken (number + 1) texts
+spoken number (text ∷ texts) =
+    if is_passed_over text then spoken (number + 1) texts
+    else (number, text) ∷ spoken (number + 1) texts
 
 -- each line has its number, and its text spells its form
 abbrev pub AreForms : List Line → List (ℕ × List ℕ) → Type 0
 AreForms [] [] = Unit {0}
 AreForms [] (text ∷ texts) = ⊥
 AreForms (line ∷ lines) [] = ⊥
-AreForms (line ∷ lines) (text ∷ texts) = (line.number ≡ text.0) × IsForm line.form text.1 × AreForms lines texts
+AreForms (line ∷ lines) (text ∷ texts) =
+    (line.number ≡ text.0) × IsForm line.form text.1 × AreForms lines texts
 
 abbrev pub forms_of : List Line → List Form
 forms_of [] = []
@@ -64,7 +67,8 @@ abbrev pub IsNoScript : Command → List ℕ → Type 0
 IsNoScript command bytes = (lines : List Line) → IsScript command bytes lines → ⊥
 
 -- so many lines of the bytes are these, and a script of the command may begin so
-pub record IsFront (command : Command) (bytes : List ℕ) (count : ℕ) (lines : List Line) : Type 0 where
+pub record IsFront (command : Command) (bytes : List ℕ) (count : ℕ)
+    (lines : List Line) : Type 0 where
   pub forms : AreForms lines (spoken 1 (take count (lines_of bytes)))
   pub few : count ≤ most_lines
   pub order : Keeps command nothing (forms_of lines)
@@ -73,7 +77,8 @@ pub record IsFront (command : Command) (bytes : List ℕ) (count : ℕ) (lines :
 -- line of the grammar, not allowed in its place, or one too many.
 pub record IsFirstOutside (command : Command) (bytes : List ℕ) (number : ℕ) : Type 0 where
   pub within : number ≤ length (lines_of bytes)
-  pub before : (count : ℕ) × (count + 1 ≡ number) × ((lines : List Line) × IsFront command bytes count lines)
+  pub before : (count : ℕ) × (count + 1 ≡ number)
+      × ((lines : List Line) × IsFront command bytes count lines)
   pub outside : (lines : List Line) → IsFront command bytes number lines → ⊥
 
 -- the refusal names a line, of which this holds
@@ -86,7 +91,8 @@ OnLine refusals.NoMemory P = Unit {0}
 -- numbers that ascend from here on, up to the most lines
 abbrev pub Ascends : ℕ → List Line → Type 0
 Ascends number [] = Unit {0}
-Ascends number (line ∷ lines) = (number ≤ line.number) × (line.number ≤ most_lines) × Ascends (line.number + 1) lines
+Ascends number (line ∷ lines) =
+    (number ≤ line.number) × (line.number ≤ most_lines) × Ascends (line.number + 1) lines
 
 abbrev pub AreFormValues : List Line → Type 0
 AreFormValues [] = Unit {0}
@@ -106,7 +112,8 @@ AreLawful lines = IsLawful Play lines ⊎ IsLawful Run lines
 
 abbrev pub IsLine : ℕ → List ℕ → Option Line → Type 0
 IsLine number text None = IsTrue (is_passed_over text)
-IsLine number text (Some line) = (is_passed_over text ≡ false) × (line.number ≡ number) × IsForm line.form text
+IsLine number text (Some line) =
+    (is_passed_over text ≡ false) × (line.number ≡ number) × IsForm line.form text
 
 abbrev pub IsAllowed : Command → Seen → Option Line → Type 0
 IsAllowed command seen None = Unit {0}
@@ -117,7 +124,8 @@ after_line seen None = seen
 after_line seen (Some line) = after seen line.form
 
 -- the text of this number is this line, or is passed over, behind lines that showed this
-pub record IsNext (command : Command) (seen : Seen) (number : ℕ) (text : List ℕ) (line : Option Line) : Type 0 where
+pub record IsNext (command : Command) (seen : Seen) (number : ℕ) (text : List ℕ)
+    (line : Option Line) : Type 0 where
   pub room : number ≤ most_lines
   pub spelled : IsLine number text line
   pub allowed : IsAllowed command seen line

@@ -1,4 +1,5 @@
--- The rules of a whole script: which forms a command has, and what a line may ask for behind others.
+-- The rules of a whole script: which forms a command has, and what a line may ask
+-- for behind others.
 use Rattle.std.specs.Prelude.{◌≡◌, ℕ, ◌==◌, ◌&&◌, not, Bool, true, false, List, [], ◌∷◌, ◌++◌, Option, Some, None, IsTrue, if◌then◌else◌}
 use Rattle.std.specs.List.{list_any}
 use Rattle.cfs_script.specs.declared.command.Command.{Command}
@@ -78,7 +79,10 @@ fits seen (forms.Cut step pick) = not seen.cut
 fits seen form = knows_user seen (user_of form)
 
 abbrev pub introduced : Seen → ℕ → Seen
-introduced seen caller = record { callers = if knows seen caller then seen.callers else seen.callers ++ caller ∷ []; cut = seen.cut }
+introduced seen caller = record {
+  callers = if knows seen caller then seen.callers else seen.callers ++ caller ∷ [];
+  cut = seen.cut;
+}
 
 abbrev pub after : Seen → Form → Seen
 after seen (forms.Caller caller uid gid) = introduced seen caller
@@ -92,4 +96,5 @@ allows command seen form = has command form && fits seen form
 -- each form may stand behind those before it
 abbrev pub Keeps : Command → Seen → List Form → Type 0
 Keeps command seen [] = Unit {0}
-Keeps command seen (form ∷ forms) = IsTrue (allows command seen form) × Keeps command (after seen form) forms
+Keeps command seen (form ∷ forms) =
+    IsTrue (allows command seen form) × Keeps command (after seen form) forms

@@ -111,21 +111,26 @@ pub data Parts : Type 0 where
   Ordered : (order : Order) → Values (order_kinds order) → Parts
 
 abbrev pub parts_of_form : Form → Parts
-parts_of_form (forms.Open caller path flags mode) = Asked caller verbs.Open (path, ((flags, mode), tt))
+parts_of_form (forms.Open caller path flags mode) =
+    Asked caller verbs.Open (path, ((flags, mode), tt))
 parts_of_form (forms.Mkdir caller path mode) = Asked caller verbs.Mkdir (path, (mode, tt))
 parts_of_form (forms.Unlink caller path) = Asked caller verbs.Unlink (path, tt)
 parts_of_form (forms.Rmdir caller path) = Asked caller verbs.Rmdir (path, tt)
 parts_of_form (forms.Rename caller from to) = Asked caller verbs.Rename (from, (to, tt))
 parts_of_form (forms.Read caller fd count) = Asked caller verbs.Read (fd, (count, tt))
 parts_of_form (forms.Write caller fd bytes) = Asked caller verbs.Write (fd, (bytes, tt))
-parts_of_form (forms.Pread caller fd offset count) = Asked caller verbs.Pread (fd, (offset, (count, tt)))
-parts_of_form (forms.Pwrite caller fd offset bytes) = Asked caller verbs.Pwrite (fd, (offset, (bytes, tt)))
-parts_of_form (forms.TryPwrite caller fd offset bytes) = Asked caller verbs.TryPwrite (fd, (offset, (bytes, tt)))
+parts_of_form (forms.Pread caller fd offset count) =
+    Asked caller verbs.Pread (fd, (offset, (count, tt)))
+parts_of_form (forms.Pwrite caller fd offset bytes) =
+    Asked caller verbs.Pwrite (fd, (offset, (bytes, tt)))
+parts_of_form (forms.TryPwrite caller fd offset bytes) =
+    Asked caller verbs.TryPwrite (fd, (offset, (bytes, tt)))
 parts_of_form (forms.Lseek caller fd seek) = Asked caller verbs.Lseek (fd, (seek, tt))
 parts_of_form (forms.Ftruncate caller fd len) = Asked caller verbs.Ftruncate (fd, (len, tt))
 parts_of_form (forms.Close caller fd) = Asked caller verbs.Close (fd, tt)
 parts_of_form (forms.Fsync caller fd) = Asked caller verbs.Fsync (fd, tt)
-parts_of_form (forms.Post caller fd offset count) = Asked caller verbs.Post (fd, (offset, (count, tt)))
+parts_of_form (forms.Post caller fd offset count) =
+    Asked caller verbs.Post (fd, (offset, (count, tt)))
 parts_of_form (forms.Serve caller fd place) = Asked caller verbs.Serve (fd, (place, tt))
 parts_of_form (forms.Dispatch ino place) = Ordered orders.Dispatch (ino, (place, tt))
 parts_of_form (forms.Apply ino place) = Ordered orders.Apply (ino, (place, tt))
@@ -191,7 +196,8 @@ values_of (Ordered order values) = (tt, values)
 
 -- the words spell the form
 abbrev pub AreFormWords : Form → List (List ℕ) → Type 0
-AreFormWords form words = SpellAll (kinds_of (parts_of_form form)) (values_of (parts_of_form form)) words
+AreFormWords form words =
+    SpellAll (kinds_of (parts_of_form form)) (values_of (parts_of_form form)) words
 
 -- the line spells the form: one space stands between two words
 abbrev pub IsForm : Form → List ℕ → Type 0
@@ -203,4 +209,5 @@ IsFormValue form = AreValues (kinds_of (parts_of_form form)) (values_of (parts_o
 
 -- the canonical line of a form
 abbrev pub form_text : Form → List ℕ
-form_text form = joined 32 (all_words (kinds_of (parts_of_form form)) (values_of (parts_of_form form)))
+form_text form =
+    joined 32 (all_words (kinds_of (parts_of_form form)) (values_of (parts_of_form form)))

@@ -11,8 +11,8 @@ pub const CALLERS: u64 = 16;
 /// `place` one in the order of a file's requests. Numbers are at most 4,294,967,295.
 #[derive(Debug, Drop, PartialEq, Eq)]
 pub enum Form {
-    /// `C open PATH FLAGS` and `C open PATH FLAGS MODE`: opens a file, and makes it where its flags say so; `mode` is 0 where
-    /// they don't (POSIX.1-2017, open()).
+    /// `C open PATH FLAGS` and `C open PATH FLAGS MODE`: opens a file, and makes it where its flags
+    /// say so; `mode` is 0 where they don't (POSIX.1-2017, open()).
     Open {
         caller: u64,
         path: Path,

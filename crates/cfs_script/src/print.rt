@@ -146,7 +146,8 @@ fn print_request(
     verb: &[u8],
     numbers: &[u64],
 ) -> Result<(), NoMemory>
-    ensures { OnOk result (text.new.items ≡ text.old.items ++ joined 32 (decimal caller ∷ verb.now ∷ map (λ n. decimal n) numbers.now)) }
+    ensures { OnOk result (text.new.items ≡ text.old.items
+        ++ joined 32 (decimal caller ∷ verb.now ∷ map (λ n. decimal n) numbers.now)) }
 {
     print_first(text, caller)?;
     print_key(text, verb)?;
@@ -155,7 +156,8 @@ fn print_request(
 
 /// Adds an order, and numbers.
 fn print_order(text: &mut Vec<u8>, order: &[u8], numbers: &[u64]) -> Result<(), NoMemory>
-    ensures { OnOk result (text.new.items ≡ text.old.items ++ joined 32 (order.now ∷ map (λ n. decimal n) numbers.now)) }
+    ensures { OnOk result (text.new.items ≡ text.old.items
+        ++ joined 32 (order.now ∷ map (λ n. decimal n) numbers.now)) }
 {
     text.extend_from_slice(order)?;
     print_numbers(text, numbers)
@@ -168,7 +170,8 @@ fn print_order(text: &mut Vec<u8>, order: &[u8], numbers: &[u64]) -> Result<(), 
 /// numbered from 1.
 pub fn print_script(alloc: Global, script: &Script) -> Result<Bytes, NoMemory>
     ensures text { IfOk result (λ text. text ≡ lines_text script.now) }
-    ensures again { IfOk result (λ text. (command : Command) → IsLawful command script.now → IsScript command text (renumbered 1 script.now)) }
+    ensures again { IfOk result (λ text. (command : Command) → IsLawful command script.now →
+        IsScript command text (renumbered 1 script.now)) }
 {
     let mut text = Vec::new(alloc);
     'lines: for line in script.lines() {

@@ -22,10 +22,13 @@ use std::alloc::{AllocFailed, Global};
 /// script has in its place: it spells no form, may not ask for that there, or is line 65,537.
 pub fn read_play(alloc: Global, bytes: &[u8]) -> Result<Script, ScriptRefusal>
     ensures found { IfOk result (λ script. IsScript commands.Play bytes.now script) }
-    ensures only { IfOk result (λ script. (lines : List Line) → IsScript commands.Play bytes.now lines → lines ≡ script) }
+    ensures only { IfOk result (λ script. (lines : List Line) →
+        IsScript commands.Play bytes.now lines → lines ≡ script) }
     ensures lawful { IfOk result (λ script. IsLawful commands.Play script) }
-    ensures refused { IfErr result (λ refusal. OnLine refusal (λ _. IsNoScript commands.Play bytes.now)) }
-    ensures first { IfErr result (λ refusal. OnLine refusal (IsFirstOutside commands.Play bytes.now)) }
+    ensures refused { IfErr result (λ refusal.
+        OnLine refusal (λ _. IsNoScript commands.Play bytes.now)) }
+    ensures first { IfErr result (λ refusal.
+        OnLine refusal (IsFirstOutside commands.Play bytes.now)) }
 {
     read_script(alloc, Command::Play, bytes)
 }
@@ -33,17 +36,21 @@ pub fn read_play(alloc: Global, bytes: &[u8]) -> Result<Script, ScriptRefusal>
 /// The script of `run` that the bytes spell, as [`read_play`] does for `play`.
 pub fn read_run(alloc: Global, bytes: &[u8]) -> Result<Script, ScriptRefusal>
     ensures found { IfOk result (λ script. IsScript commands.Run bytes.now script) }
-    ensures only { IfOk result (λ script. (lines : List Line) → IsScript commands.Run bytes.now lines → lines ≡ script) }
+    ensures only { IfOk result (λ script. (lines : List Line) →
+        IsScript commands.Run bytes.now lines → lines ≡ script) }
     ensures lawful { IfOk result (λ script. IsLawful commands.Run script) }
-    ensures refused { IfErr result (λ refusal. OnLine refusal (λ _. IsNoScript commands.Run bytes.now)) }
-    ensures first { IfErr result (λ refusal. OnLine refusal (IsFirstOutside commands.Run bytes.now)) }
+    ensures refused { IfErr result (λ refusal.
+        OnLine refusal (λ _. IsNoScript commands.Run bytes.now)) }
+    ensures first { IfErr result (λ refusal.
+        OnLine refusal (IsFirstOutside commands.Run bytes.now)) }
 {
     read_script(alloc, Command::Run, bytes)
 }
 
 fn read_script(alloc: Global, command: Command, bytes: &[u8]) -> Result<Script, ScriptRefusal>
     ensures found { IfOk result (λ script. IsScript command bytes.now script) }
-    ensures only { IfOk result (λ script. (lines : List Line) → IsScript command bytes.now lines → lines ≡ script) }
+    ensures only { IfOk result (λ script. (lines : List Line) →
+        IsScript command bytes.now lines → lines ≡ script) }
     ensures lawful { IfOk result (λ script. IsLawful command script) }
     ensures refused { IfErr result (λ refusal. OnLine refusal (λ _. IsNoScript command bytes.now)) }
     ensures first { IfErr result (λ refusal. OnLine refusal (IsFirstOutside command bytes.now)) }
@@ -70,7 +77,8 @@ fn next_line(
     ensures found { IfOk result (IsNext command seen.old number text.now) }
     ensures seen { IfOk result (λ line. seen.new ≡ after_line seen.old line) }
     ensures number { IfErr result (λ refusal. OnLine refusal (λ n. n ≡ number)) }
-    ensures refused { IfErr result (λ refusal. OnLine refusal (λ _. (line : Option Line) → IsNext command seen.old number text.now line → ⊥)) }
+    ensures refused { IfErr result (λ refusal. OnLine refusal (λ _.
+        (line : Option Line) → IsNext command seen.old number text.now line → ⊥)) }
 {
     if number > MOST_LINES {
         return Err(ScriptRefusal::Line(number));

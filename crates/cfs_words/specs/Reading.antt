@@ -29,7 +29,8 @@ Gives view (Err Outside) read = read ≡ None
 Gives view (Err NoMemory) read = Unit {0}
 
 -- the same, of a reader that moves past what it read
-abbrev pub Reads : {X Y : Type 0} → (X → Y) → Result X WordRefusal → List (List ℕ) → Option (Y × List (List ℕ)) → Type 0
+abbrev pub Reads : {X Y : Type 0} → (X → Y) → Result X WordRefusal → List (List ℕ)
+    → Option (Y × List (List ℕ)) → Type 0
 Reads view (Ok x) rest read = read ≡ Some (view x, rest)
 Reads view (Err Outside) rest read = read ≡ None
 Reads view (Err NoMemory) rest read = Unit {0}
@@ -44,22 +45,30 @@ words_left (Some bytes) = words_of bytes
 -- decimal digits, without a leading zero
 abbrev pub is_canonical : List ℕ → Bool
 is_canonical [] = false
-is_canonical (first ∷ rest) = list_all is_ascii_digit (first ∷ rest) && (not (first == 48) || (length rest == 0))
+is_canonical (first ∷ rest) =
+    list_all is_ascii_digit (first ∷ rest) && (not (first == 48) || (length rest == 0))
 
 -- the number that a word spells
 unfoldable pub number_of : ℕ → ℕ → List ℕ → Option ℕ
 number_of least most word =
     let value = digits_value 10 word in
-    if is_canonical word && (nat_le value largest_number && (nat_le least value && nat_le value most)) then Some value else None
+    if is_canonical word
+    && (nat_le value largest_number && (nat_le least value && nat_le value most))
+    then Some value
+    else None
 
 -- the names of a path, each behind a slash
 abbrev pub is_path_name : List ℕ → Bool
-is_path_name name = nat_le 1 (length name) && (nat_le (length name) 200 && list_all is_name_byte name)
+is_path_name name =
+    nat_le 1 (length name) && (nat_le (length name) 200 && list_all is_name_byte name)
 
 abbrev pub names_behind : List (List ℕ) → Option (List (List ℕ))
 names_behind [] = None
 names_behind ([] ∷ []) = None
-names_behind ([] ∷ name ∷ names) = if nat_le (length (name ∷ names)) 64 && list_all is_path_name (name ∷ names) then Some (name ∷ names) else None
+names_behind ([] ∷ name ∷ names) =
+    if nat_le (length (name ∷ names)) 64 && list_all is_path_name (name ∷ names)
+    then Some (name ∷ names)
+    else None
 names_behind ((b ∷ bs) ∷ names) = None
 
 unfoldable pub path_of : List ℕ → Option (List (List ℕ))
@@ -78,7 +87,13 @@ flags_of word =
     let exclusive = letter_at 120 create.1 in
     let append = letter_at 97 exclusive.1 in
     if (read.0 || write.0) && (length append.1 == 0)
-    then Some (record { read = read.0; write = write.0; create = create.0; exclusive = exclusive.0; append = append.0 })
+    then Some (record {
+      read = read.0;
+      write = write.0;
+      create = create.0;
+      exclusive = exclusive.0;
+      append = append.0;
+    })
     else None
 
 abbrev pub is_octal : ℕ → Bool
@@ -89,7 +104,9 @@ octal_value a b c = (a - 48) * 64 + (b - 48) * 8 + (c - 48)
 
 abbrev pub octal_of : List ℕ → Option ℕ
 octal_of (zero_digit ∷ a ∷ b ∷ c ∷ []) =
-    if zero_digit == 48 && (is_octal a && (is_octal b && is_octal c)) then Some (octal_value a b c) else None
+    if zero_digit == 48 && (is_octal a && (is_octal b && is_octal c))
+    then Some (octal_value a b c)
+    else None
 octal_of word = None
 
 unfoldable pub mode_of : List ℕ → Option ℕ
@@ -201,8 +218,10 @@ payload_at words = do
 unfoldable pub whence_at : List (List ℕ) → Option (Seek × List (List ℕ))
 whence_at words = do
   word ← word_at words
-  if bytes_eq word.0 (codes "set") then (number_at 0 largest_number word.1 >>= (λ n. Some (To n.0, n.1)))
-      else if bytes_eq word.0 (codes "cur") then (word_at word.1 >>= (λ next. offset_of next.0 >>= (λ seek. Some (seek, next.1))))
+  if bytes_eq word.0 (codes "set")
+      then (number_at 0 largest_number word.1 >>= (λ n. Some (To n.0, n.1)))
+      else if bytes_eq word.0 (codes "cur")
+      then (word_at word.1 >>= (λ next. offset_of next.0 >>= (λ seek. Some (seek, next.1))))
       else None
 
 -- a device of one number
@@ -246,4 +265,5 @@ end_of (word ∷ words) = None
 -- what is made of the values of the words, kind by kind up to the last word
 abbrev pub read : {X : Type 0} → (kinds : List Kind) → (Values kinds → X) → List (List ℕ) → Option X
 read [] make words = end_of words >>= (λ e. Some (make tt))
-read (kind ∷ kinds) make words = value_at kind words >>= (λ v. read kinds (λ values. make (v.0, values)) v.1)
+read (kind ∷ kinds) make words =
+    value_at kind words >>= (λ v. read kinds (λ values. make (v.0, values)) v.1)

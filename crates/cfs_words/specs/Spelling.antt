@@ -115,4 +115,5 @@ all_words (kind ∷ kinds) values = words_for kind values.0 ++ all_words kinds v
 abbrev pub SpellAll : (kinds : List Kind) → Values kinds → List (List ℕ) → Type 0
 SpellAll [] values words = words ≡ []
 SpellAll (kind ∷ kinds) values words =
-    (front : List (List ℕ)) × ((rest : List (List ℕ)) × ((words ≡ front ++ rest) × Spells kind values.0 front × SpellAll kinds values.1 rest))
+    (front : List (List ℕ)) × ((rest : List (List ℕ))
+    × ((words ≡ front ++ rest) × Spells kind values.0 front × SpellAll kinds values.1 rest))

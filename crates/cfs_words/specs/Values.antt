@@ -20,7 +20,8 @@ letter_if there letter = if there then letter ∷ [] else []
 -- `r`, `w`, `c`, `x` and `a`, each where it is set
 abbrev pub flags_text : Flags → List ℕ
 flags_text flags =
-    letter_if flags.read 114 ++ (letter_if flags.write 119 ++ (letter_if flags.create 99 ++ (letter_if flags.exclusive 120 ++ letter_if flags.append 97)))
+    letter_if flags.read 114 ++ (letter_if flags.write 119 ++ (letter_if flags.create 99
+    ++ (letter_if flags.exclusive 120 ++ letter_if flags.append 97)))
 
 -- four octal digits, the first `0`
 abbrev pub mode_text : ℕ → List ℕ

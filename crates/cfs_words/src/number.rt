@@ -56,7 +56,9 @@ fn are_digits(word: &[u8]) -> bool
 /// The value of digits, up to the largest number.
 fn value_in(digits: &[u8]) -> Option<u64>
     requires { list_all is_ascii_digit digits.now ≡ true }
-    ensures { result ≡ (if nat_le (digits_value 10 digits.now) LARGEST_NUMBER then Some (digits_value 10 digits.now) else None) }
+    ensures { result ≡
+        (if nat_le (digits_value 10 digits.now) LARGEST_NUMBER
+        then Some (digits_value 10 digits.now) else None) }
 {
     let mut value = 0;
     for digit in digits {

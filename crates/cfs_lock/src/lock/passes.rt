@@ -86,7 +86,8 @@ impl<X: Recorded> TreeLock<X> {
         requires some { 0 < pass.old.left }
         ensures own { IsPassOf self.now pass.new × IsPassOf self.now result }
         ensures outside { IsOutside pass.new × IsOutside result }
-        ensures one_less { (pass.new.number ≡ pass.old.number) × (pass.new.left + 1 ≡ pass.old.left) }
+        ensures one_less { (pass.new.number ≡ pass.old.number)
+            × (pass.new.left + 1 ≡ pass.old.left) }
         ensures next { (result.number ≡ next_number (knows pass.old)) × (result.left ≡ 0) }
         ensures kept { knows pass.new ≡ cut_left (knows pass.old) }
         ensures knows { knows result ≡ cut_right (knows pass.old) }
