@@ -1,19 +1,26 @@
--- The grants that stand.
-use Rattle.std.specs.Prelude.{ℕ, ◌≡◌, ◌≤◌, ◌==◌, Bool, not, List, length, filter, find, Option}
+-- The grants that stand, each at its queue.
+use Rattle.std.specs.Prelude.{ℕ, suc, ◌==◌, Bool, false, List, [], ◌∷◌, Option, Some, None, slice_get}
 use Rattle.std.specs.List.{list_any}
+use Rattle.std.specs.Option.{option_and_then}
 use Rattle.cfs_grants.specs.declared.grant.Grant.{Grant}
 
--- the grant of a number
-abbrev pub grant_of : List Grant → ℕ → Option Grant
-grant_of grants number = find (λ grant. grant.number == number) grants
+-- the grant that has a queue
+abbrev pub grant_at : List (Option Grant) → ℕ → Option Grant
+grant_at grants queue = option_and_then (λ row. row) (slice_get grants queue)
 
--- the grants but that of a number
-abbrev pub without_grant : ℕ → List Grant → List Grant
-without_grant number grants = filter (λ grant. not (grant.number == number)) grants
+-- the lowest queue without a grant, where the first row is that of queue `first`
+abbrev pub free_from : ℕ → List (Option Grant) → Option ℕ
+free_from first [] = None
+free_from first (None ∷ rows) = Some first
+free_from first (Some grant ∷ rows) = free_from (suc first) rows
 
--- whether a grant has this queue, and whether one is for this file
-abbrev pub has_queue : List Grant → ℕ → Bool
-has_queue grants queue = list_any (λ grant. grant.queue == queue) grants
+abbrev pub free_queue : List (Option Grant) → Option ℕ
+free_queue grants = free_from 0 grants
 
-abbrev pub has_file : List Grant → ℕ → Bool
-has_file grants ino = list_any (λ grant. grant.ino == ino) grants
+-- whether a grant is for this file
+abbrev pub is_for : ℕ → Option Grant → Bool
+is_for ino None = false
+is_for ino (Some grant) = grant.ino == ino
+
+abbrev pub has_file : List (Option Grant) → ℕ → Bool
+has_file grants ino = list_any (is_for ino) grants

@@ -10,11 +10,11 @@ abbrev pub row_of : List (Option Removed) → ℕ → Option Removed
 row_of rows rec = option_and_then (λ row. row) (slice_get rows rec)
 
 -- no pass has it, and no grant is for it
-abbrev pub is_dying : List Grant → Removed → Bool
+abbrev pub is_dying : List (Option Grant) → Removed → Bool
 is_dying grants row = not (is_some row.by) && not (has_file grants row.ino)
 
 -- the lowest record of such a file, where the first row is that of record `first`
-abbrev pub first_dying : ℕ → List Grant → List (Option Removed) → Option (ℕ × ℕ)
+abbrev pub first_dying : ℕ → List (Option Grant) → List (Option Removed) → Option (ℕ × ℕ)
 first_dying first grants [] = None
 first_dying first grants (None ∷ rows) = first_dying (suc first) grants rows
 first_dying first grants (Some row ∷ rows) =

@@ -1,12 +1,15 @@
-//! Grants: who has which queue for which file.
+//! Grants: who has which queue for which file; the removed files, which wait for the last of their
+//! grants; and the records that are free.
 #![tactic(auto)]
 
+mod free;
 mod grant;
 mod grants;
 mod removed;
 #[cfg(test)]
 mod tests;
 
+pub use free::FreeRecords;
 pub use grant::Grant;
-pub use grants::{Grants, MOST_GRANTS};
+pub use grants::{Grants, MOST_QUEUES};
 pub use removed::{RECORDS, Removed, RemovedFiles};

@@ -1,8 +1,7 @@
-use crate::{Grant, Grants, MOST_GRANTS, RECORDS, Removed, RemovedFiles};
+use crate::{FreeRecords, Grant, Grants, MOST_QUEUES, RECORDS, Removed, RemovedFiles};
 use std::test::Fail;
 
-fn grant(number: u64) -> Grant {
-    let queue = (number % 64) as u32;
+fn grant(number: u64, queue: u32) -> Grant {
     Grant {
         number,
         ino: number.saturating_add(100),
@@ -15,32 +14,57 @@ fn grant(number: u64) -> Grant {
 
 #[test]
 fn grants_come_and_go(rt: HostRuntime) {
-    let mut grants = Grants::new();
-    assert_eq!(rt; MOST_GRANTS, 64);
-    grants.add(grant(1));
-    grants.add(grant(2));
-    grants.add(grant(3));
-    assert_eq!(rt; grants.get(2).copied(), Some(grant(2)));
-    assert!(rt; grants.has_queue(3) && grants.has_file(103));
-    grants.remove(2);
-    grants.remove(7);
-    assert_eq!(rt; grants.get(2).copied(), None);
-    assert!(rt; !grants.has_queue(2) && !grants.has_file(102));
-    assert_eq!(rt; grants.rows(), [grant(1), grant(3)].as_slice());
+    let mut grants = Grants::new(3);
+    assert_eq!(rt; MOST_QUEUES, 64);
+    assert_eq!(rt; grants.free_queue(), Some(0));
+    grants.give(grant(1, 0));
+    grants.give(grant(2, 1));
+    assert_eq!(rt; grants.free_queue(), Some(2));
+    grants.give(grant(3, 2));
+    assert_eq!(rt; grants.free_queue(), None);
+    assert_eq!(rt; grants.get(1), Some(grant(2, 1)));
+    assert!(rt; grants.has_file(102) && !grants.has_file(104));
+    grants.close(1);
+    grants.close(7);
+    assert_eq!(rt; grants.free_queue(), Some(1));
+    assert_eq!(rt; grants.get(1), None);
+    assert_eq!(rt; grants.get(3), None);
+    assert!(rt; !grants.has_file(102));
+    assert_eq!(rt;
+        grants.rows(),
+        [Some(grant(1, 0)), None, Some(grant(3, 2))].as_slice()
+    );
+}
+
+#[test]
+fn the_lowest_record_is_found(rt: HostRuntime) {
+    let mut free = FreeRecords::none();
+    assert_eq!(rt; free.lowest(), None);
+    free.give(255);
+    assert_eq!(rt; free.lowest(), Some(255));
+    free.give(64);
+    free.give(63);
+    assert_eq!(rt; free.lowest(), Some(63));
+    free.take(63);
+    free.take(7);
+    assert_eq!(rt; free.lowest(), Some(64));
+    free.take(64);
+    free.take(255);
+    assert_eq!(rt; free.lowest(), None);
 }
 
 #[test]
 fn removed_files_wait_for_their_grants(rt: HostRuntime) -> Result<(), Fail> {
-    let mut grants = Grants::new();
+    let mut grants = Grants::new(64);
     let mut files = RemovedFiles::new(rt.alloc())?;
     assert_eq!(rt; RECORDS, 256);
     assert_eq!(rt; files.dying(1, &grants), None);
     files.add(9, 109);
     files.add(4, 101);
     files.add(7, 107);
-    grants.add(grant(1));
+    grants.give(grant(1, 5));
     assert_eq!(rt; files.dying(1, &grants), Some((7, 107)));
-    grants.remove(1);
+    grants.close(5);
     assert_eq!(rt; files.dying(2, &grants), Some((4, 101)));
     files.freed(7);
     files.kept(4);
