@@ -33,6 +33,7 @@ pub use moved::Moved;
 pub use name::{LONGEST_NAME, Name};
 pub use node::Node;
 pub use path::{Component, LONGEST_COMPONENT, MOST_NAMES, Path, PathRefusal};
+pub use place::Place;
 pub use posix::Posix;
 pub use refusal::TreeRefusal;
 pub use rules::{DEEPEST, path_refusal, paths_refusal};

@@ -1,7 +1,11 @@
+ghost use Rattle.std.specs.Prelude.{◌≡◌};
+
 use crate::{FreeRecords, Grant, Grants, MOST_QUEUES, RECORDS, Removed, RemovedFiles};
 use std::test::Fail;
 
-fn grant(number: u64, queue: u32) -> Grant {
+fn grant(number: u64, queue: u32) -> Grant
+    ensures { result.queue ≡ queue }
+{
     Grant {
         number,
         ino: number.saturating_add(100),

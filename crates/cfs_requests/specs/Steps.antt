@@ -1,13 +1,12 @@
 -- Requests on names one after another: what each makes of the tree and the grants.
-use Rattle.std.specs.Prelude.{ℕ, ◌+◌, ◌≡◌, not, List, [], ◌∷◌, ◌++◌, find, Option, Some, None, Result, Ok, Err, IsSomeAnd}
-use Rattle.std.specs.List.{range_with_len}
+use Rattle.std.specs.Prelude.{ℕ, ◌+◌, ◌≡◌, ◌==◌, List, [], ◌∷◌, ◌++◌, Option, Some, None, Result, Ok, Err, IsSomeAnd, if◌then◌else◌, set}
 use Rattle.cfs_cred.specs.declared.credential.Credential.{Credential}
 use Rattle.cfs_dir.specs.declared.moved.Moved.{Moved}
 use Rattle.cfs_dir.specs.declared.node.Node.{Node}
 use Rattle.cfs_dir.specs.Moved.{with_move}
 use Rattle.cfs_dir.specs.Namespace.{Namespace, with_node, without_node}
 use Rattle.cfs_grants.specs.declared.grant.Grant.{Grant}
-use Rattle.cfs_grants.specs.Grants.{has_queue, without_grant}
+use Rattle.cfs_grants.specs.Grants.{free_queue, grant_at}
 use Rattle.cfs_requests.specs.declared.name_refusal.NameRefusal.{NameRefusal}
 use Rattle.cfs_requests.specs.declared.opening.Opening.{Opening}
 use Rattle.cfs_requests.specs.declared.opening.Opening.TheVariants.{Found, Made}
@@ -25,8 +24,8 @@ pub data NameRequest : Type 0 where
   removes_directory : Credential → List (List ℕ) → NameRequest
   -- rename, from one path to another
   moves_node : Credential → List (List ℕ) → List (List ℕ) → NameRequest
-  -- close, of the grant with this number
-  closes_grant : ℕ → NameRequest
+  -- close, of the grant that has this queue
+  closes_queue : ℕ → NameRequest
 
 pub data NameAnswer : Type 0 where
   -- the grant of an open
@@ -35,17 +34,13 @@ pub data NameAnswer : Type 0 where
   numbered : ℕ → NameAnswer
   done : NameAnswer
 
--- the tree, the grants that stand, and the number of the next grant
+-- the tree, the grants that stand, each at its queue, and the number of the next grant
 pub record Names : Type 0 where
   pub tree : Namespace
-  pub grants : List Grant
+  pub grants : List (Option Grant)
   pub next_grant : ℕ
 
 -- ---- one request
-
--- the lowest queue of so many that no grant has
-abbrev pub free_queue : ℕ → List Grant → Option ℕ
-free_queue queues grants = find (λ queue. not (has_queue grants queue)) (range_with_len 0 queues)
 
 abbrev pub opened_node : Opening → Node
 opened_node (Found node) = node
@@ -79,7 +74,7 @@ open_step names caller flags (Some queue) (Ok opening) =
       granted grant,
       record {
         tree = opened_tree names.tree opening;
-        grants = names.grants ++ grant ∷ [];
+        grants = set names.grants queue (Some grant);
         next_grant = names.next_grant + 1;
       },
     )
@@ -97,21 +92,29 @@ abbrev pub move_step : Names → Result Moved NameRefusal → Step
 move_step names (Err refusal) = None
 move_step names (Ok moved) = Some (done, record names { tree = with_move names.tree moved })
 
--- The request of a caller, on a store of so many queues; where it makes a node, in this record.
-abbrev pub stepped : ℕ → Names → ℕ → NameRequest → Option ℕ → Step
-stepped queues names caller (opens_file credential path flags mode) rec =
-    open_step names caller flags (free_queue queues names.grants)
+-- A caller gives back a queue that is granted to it.
+abbrev pub close_step : Names → ℕ → ℕ → Option Grant → Step
+close_step names caller queue None = None
+close_step names caller queue (Some grant) =
+    if grant.caller == caller
+    then Some (done, record names { grants = set names.grants queue None })
+    else None
+
+-- The request of a caller; where it makes a node, in this record.
+abbrev pub stepped : Names → ℕ → NameRequest → Option ℕ → Step
+stepped names caller (opens_file credential path flags mode) rec =
+    open_step names caller flags (free_queue names.grants)
     (opens names.tree credential path flags mode rec)
-stepped queues names caller (makes_directory credential path mode) rec =
+stepped names caller (makes_directory credential path mode) rec =
     make_step names (makes names.tree credential path mode rec)
-stepped queues names caller (unlinks_file credential path) rec =
+stepped names caller (unlinks_file credential path) rec =
     remove_step names (unlinks names.tree credential path)
-stepped queues names caller (removes_directory credential path) rec =
+stepped names caller (removes_directory credential path) rec =
     remove_step names (removes names.tree credential path)
-stepped queues names caller (moves_node credential from to) rec =
+stepped names caller (moves_node credential from to) rec =
     move_step names (moves names.tree credential from to)
-stepped queues names caller (closes_grant number) rec =
-    Some (done, record names { grants = without_grant number names.grants })
+stepped names caller (closes_queue queue) rec =
+    close_step names caller queue (grant_at names.grants queue)
 
 -- ---- one after another
 
@@ -125,16 +128,16 @@ pub record NameEntry : Type 0 where
 
 -- A legal order: each request answers by the tree and the grants after those before it, and the
 -- last leaves these. Its places are 1, 2, 3 and so on.
-abbrev pub IsLegalOrder : ℕ → Names → List NameEntry → Names → Type 0
-IsLegalOrder queues base [] now = now ≡ base
-IsLegalOrder queues base (entry ∷ rest) now =
-    IsSomeAnd (stepped queues base entry.caller entry.request entry.rec)
-    (λ after. (after.0 ≡ entry.answer) × IsLegalOrder queues after.1 rest now)
+abbrev pub IsLegalOrder : Names → List NameEntry → Names → Type 0
+IsLegalOrder base [] now = now ≡ base
+IsLegalOrder base (entry ∷ rest) now =
+    IsSomeAnd (stepped base entry.caller entry.request entry.rec)
+    (λ after. (after.0 ≡ entry.answer) × IsLegalOrder after.1 rest now)
 
 -- A legal order goes on with a request that is answered by what it left.
 abbrev pub OrdersGoOn : Type 0
 OrdersGoOn =
-    (queues : ℕ) (base now after : Names) (log : List NameEntry) (entry : NameEntry) →
-    IsLegalOrder queues base log now →
-    stepped queues now entry.caller entry.request entry.rec ≡ Some (entry.answer, after) →
-    IsLegalOrder queues base (log ++ entry ∷ []) after
+    (base now after : Names) (log : List NameEntry) (entry : NameEntry) →
+    IsLegalOrder base log now →
+    stepped now entry.caller entry.request entry.rec ≡ Some (entry.answer, after) →
+    IsLegalOrder base (log ++ entry ∷ []) after
