@@ -44,6 +44,13 @@ impl Grants {
         self.rows.as_slice()
     }
 
+    /// How many queues the store has.
+    pub fn queues(&self) -> u32
+        ensures { result ≡ length self.now }
+    {
+        self.rows.len() as u32
+    }
+
     /// The grant that has a queue.
     pub fn get(&self, queue: u32) -> Option<Grant>
         ensures { result ≡ grant_at self.now queue }

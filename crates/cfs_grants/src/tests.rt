@@ -20,6 +20,7 @@ fn grant(number: u64, queue: u32) -> Grant
 fn grants_come_and_go(rt: HostRuntime) {
     let mut grants = Grants::new(3);
     assert_eq!(rt; MOST_QUEUES, 64);
+    assert_eq!(rt; grants.queues(), 3);
     assert_eq!(rt; grants.free_queue(), Some(0));
     grants.give(grant(1, 0));
     grants.give(grant(2, 1));

@@ -1,0 +1,5 @@
+pub mod Begun
+pub mod Keeping
+pub mod Lowest
+pub mod Nodes
+pub mod Rows
