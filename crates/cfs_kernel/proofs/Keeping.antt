@@ -1,17 +1,21 @@
 -- Records that are kept: what changes at one of them.
-use Rattle.std.proofs.Common.{ℕ, zero, suc, ◌+◌, ◌≡◌, ◌≢◌, ◌<◌, ◌==◌, Bool, true, false, not, ◌&&◌, ◌||◌, List, [], ◌∷◌, length, Option, Some, None, inl, inr, refl, sym, ◌∙◌, ap, subst, arith}
-use Rattle.std.specs.Prelude.{IfSome, is_some, nat_eq, replicate, set}
+use Rattle.std.proofs.Common.{ℕ, zero, suc, ◌+◌, ◌≡◌, ◌≢◌, ◌<◌, ◌==◌, Bool, true, false, cond, not, ◌&&◌, ◌||◌, List, [], ◌∷◌, length, Option, Some, None, inl, inr, refl, sym, ◌∙◌, ap, subst, arith}
+use Rattle.std.specs.Option.{option_map}
+use Rattle.std.specs.Prelude.{IfSome, IsSomeAnd, is_some, nat_eq, replicate, set}
 use Rattle.std.proofs.Math.ListN.{length-set}
 use Rattle.std.proofs.lemmas.List.{length-replicate}
 use Rattle.std.proofs.lemmas.Bool.{cases_Bool, cond-false, cond-true, eq-eqb, eqb-false, eqb-true, ne_eqb}
 use Rattle.cfs_dir.specs.declared.node.Node.{Node}
-use Rattle.cfs_dir.specs.Namespace.{node_at, placed, without}
+use Rattle.cfs_dir.specs.Change.{without_replaced}
+use Rattle.cfs_dir.specs.Namespace.{Namespace, is_directory, node_at, placed, without}
+use Rattle.cfs_dir.specs.declared.moved.Moved.{Moved}
+use Rattle.cfs_dir.specs.Moved.{CanMove, IsSameNode}
 use Rattle.cfs_grants.specs.declared.free.FreeRecords.{FreeRecords}
 use Rattle.cfs_grants.specs.declared.grant.Grant.{Grant}
 use Rattle.cfs_grants.specs.declared.removed.Removed.{Removed}
 use Rattle.cfs_grants.specs.Free.{is_free}
 use Rattle.cfs_grants.specs.Removed.{first_dying, given_to, is_dying, kept_again, row_of}
-use Rattle.cfs_kernel.specs.Records.{AreKept, is_unused, unused_record}
+use Rattle.cfs_kernel.specs.Records.{AreFreed, AreKept, IsFreed, buried, is_unused, unused_record}
 use Rattle.cfs_kernel.proofs.Lowest.{first_record, found_record, no_record}
 use Rattle.cfs_kernel.proofs.Nodes.{placed_other, placed_same, without_other, without_same}
 use Rattle.cfs_kernel.proofs.Rows.{at, at_within, set_other, set_same}
@@ -32,14 +36,14 @@ both_not false false e = (refl, refl)
 module _ (nodes : List Node) (rows : List (Option Removed)) (bits : FreeRecords) (kept : AreKept nodes rows bits) where
   -- at one record the three are others, and at each other record they are as they were
   pub at_one : (rec : ℕ) (nodes_new : List Node) (rows_new : List (Option Removed)) (bits_new : FreeRecords) →
-      length rows_new ≡ length rows →
+      rec < 256 → length rows_new ≡ length rows →
       ((other : ℕ) → other ≢ rec → is_some (node_at nodes_new other) ≡ is_some (node_at nodes other)) →
       ((other : ℕ) → other ≢ rec → row_of rows_new other ≡ row_of rows other) →
       ((other : ℕ) → other < 256 → other ≢ rec → is_free bits_new other ≡ is_free bits other) →
       (is_free bits_new rec ≡ is_unused nodes_new rows_new rec) →
       (is_some (row_of rows_new rec) ≡ true → is_some (node_at nodes_new rec) ≡ false) →
       AreKept nodes_new rows_new bits_new
-  at_one rec nodes_new rows_new bits_new size same_nodes same_rows same_bits free apart = record {
+  at_one rec nodes_new rows_new bits_new within size same_nodes same_rows same_bits free apart = record {
     free = λ other low. elim (cases_Bool (nat_eq other rec)) [
       | inl t ↦ subst (λ n. is_free bits_new n ≡ is_unused nodes_new rows_new n) (sym (eqb-true other rec t)) free
       | inr f ↦
@@ -55,6 +59,10 @@ module _ (nodes : List Node) (rows : List (Option Removed)) (bits : FreeRecords)
       | inr f ↦
           let differs = eqb-false other rec f in
           same_nodes other differs ∙ kept.apart other (sym (ap (λ row. is_some row) (same_rows other differs)) ∙ there)
+    ];
+    within = λ other there. elim (cases_Bool (nat_eq other rec)) [
+      | inl t ↦ subst (λ n. n < 256) (sym (eqb-true other rec t)) within
+      | inr f ↦ kept.within other (sym (same_nodes other (eqb-false other rec f)) ∙ there)
     ];
     size = size ∙ kept.size;
   }
@@ -97,7 +105,7 @@ module _ (nodes : List Node) (rows : List (Option Removed)) (bits : FreeRecords)
   row_changed rec row there =
       let low = at_within rows rec there in
       let now = set_same rows rec (Some row) low in
-      at_one rec nodes (set rows rec (Some row)) bits (length-set rows rec (Some row)) (λ other differs. refl)
+      at_one rec nodes (set rows rec (Some row)) bits (let size = kept.size in omega (arith, size, low)) (length-set rows rec (Some row)) (λ other differs. refl)
       (λ other differs. set_other rows rec other (Some row) differs) (λ other within differs. refl)
       (kept.free rec (let size = kept.size in omega (arith, size, low))
       ∙ ap (λ b. not (is_some (node_at nodes rec)) && not b) (alike (row_of rows rec) there now))
@@ -146,7 +154,7 @@ module _ (nodes : List Node) (rows : List (Option Removed)) (bits : FreeRecords)
       let size = kept.size in
       let within : rec < 256 = omega (arith, size, low) in
       let now = set_same rows rec None low in
-      at_one rec nodes (set rows rec None) bits_new (length-set rows rec None) (λ other differs. refl)
+      at_one rec nodes (set rows rec None) bits_new within (length-set rows rec None) (λ other differs. refl)
       (λ other differs. set_other rows rec other None differs)
       (λ other less differs. given other less ∙ ap (λ b. b || is_free bits other) (ne_eqb other rec differs))
       (given rec within ∙ ap (λ b. b || is_free bits rec) (eq-eqb rec rec refl)
@@ -163,7 +171,7 @@ module _ (nodes : List Node) (rows : List (Option Removed)) (bits : FreeRecords)
   node_joined node bits_new within free taken none =
       let parts = both_not (is_some (node_at nodes node.rec)) (is_some (row_of rows node.rec)) (sym (kept.free node.rec within) ∙ free) in
       let there : is_some (node_at (placed node nodes) node.rec) ≡ true = ap (λ found. is_some found) (placed_same node nodes none) in
-      at_one node.rec (placed node nodes) rows bits_new refl
+      at_one node.rec (placed node nodes) rows bits_new within refl
       (λ other differs. ap (λ found. is_some found) (placed_other node nodes other differs)) (λ other differs. refl)
       (λ other less differs. taken other less ∙ ap (λ b. not b && is_free bits other) (ne_eqb other node.rec differs))
       (taken node.rec within ∙ ap (λ b. not b && is_free bits node.rec) (eq-eqb node.rec node.rec refl)
@@ -171,13 +179,14 @@ module _ (nodes : List Node) (rows : List (Option Removed)) (bits : FreeRecords)
       (λ row. absurd (let clash = sym parts.1 ∙ row in cc))
 
   -- a directory leaves, and its record is free
-  pub directory_left : (rec : ℕ) (bits_new : FreeRecords) → rec < 256 → is_some (node_at nodes rec) ≡ true →
+  pub directory_left : (rec : ℕ) (bits_new : FreeRecords) → is_some (node_at nodes rec) ≡ true →
       ((other : ℕ) → other < 256 → is_free bits_new other ≡ (nat_eq other rec || is_free bits other)) →
       AreKept (without rec nodes) rows bits_new
-  directory_left rec bits_new within there given =
+  directory_left rec bits_new there given =
+      let within = kept.within rec there in
       let gone : is_some (node_at (without rec nodes) rec) ≡ false = ap (λ found. is_some found) (without_same rec nodes) in
       let row = node_has_no_row rec there in
-      at_one rec (without rec nodes) rows bits_new refl
+      at_one rec (without rec nodes) rows bits_new (kept.within rec there) refl
       (λ other differs. ap (λ found. is_some found) (without_other rec other nodes differs)) (λ other differs. refl)
       (λ other less differs. given other less ∙ ap (λ b. b || is_free bits other) (ne_eqb other rec differs))
       (given rec within ∙ ap (λ b. b || is_free bits rec) (eq-eqb rec rec refl)
@@ -185,12 +194,13 @@ module _ (nodes : List Node) (rows : List (Option Removed)) (bits : FreeRecords)
       (λ _. gone)
 
   -- a file leaves, and is a removed file
-  pub file_left : (rec : ℕ) (row : Removed) → rec < 256 → is_some (node_at nodes rec) ≡ true →
+  pub file_left : (rec : ℕ) (row : Removed) → is_some (node_at nodes rec) ≡ true →
       AreKept (without rec nodes) (set rows rec (Some row)) bits
-  file_left rec row within there =
+  file_left rec row there =
+      let within = kept.within rec there in
       let gone : is_some (node_at (without rec nodes) rec) ≡ false = ap (λ found. is_some found) (without_same rec nodes) in
       let now = set_same rows rec (Some row) (let size = kept.size in omega (arith, size, within)) in
-      at_one rec (without rec nodes) (set rows rec (Some row)) bits (length-set rows rec (Some row))
+      at_one rec (without rec nodes) (set rows rec (Some row)) bits within (length-set rows rec (Some row))
       (λ other differs. ap (λ found. is_some found) (without_other rec other nodes differs))
       (λ other differs. set_other rows rec other (Some row) differs) (λ other less differs. refl)
       (kept.free rec within ∙ ap (λ b. not b && not (is_some (row_of rows rec))) there
@@ -204,8 +214,23 @@ module _ (nodes : List Node) (rows : List (Option Removed)) (bits : FreeRecords)
   nodes_alike nodes_new same = record {
     free = λ rec low. kept.free rec low ∙ ap (λ b. not b && not (is_some (row_of rows rec))) (sym (same rec));
     apart = λ rec there. same rec ∙ kept.apart rec there;
+    within = λ rec there. kept.within rec (sym (same rec) ∙ there);
     size = kept.size;
   }
+
+  -- a node leaves, and its record is free, or the file's is a removed file's
+  left_by_kind : (directory : Bool) (rec ino : ℕ) (bits_new : FreeRecords) → is_some (node_at nodes rec) ≡ true →
+      IsFreed directory rec bits bits_new →
+      AreKept (without rec nodes) (cond directory rows (set rows rec (Some record { ino = ino; by = None }))) bits_new
+  left_by_kind true rec ino bits_new there freed = directory_left rec bits_new there freed
+  left_by_kind false rec ino bits_new there freed =
+      subst (λ (bits : FreeRecords). AreKept (without rec nodes) (set rows rec (Some record { ino = ino; by = None })) bits) (sym freed)
+      (file_left rec (record { ino = ino; by = None }) there)
+
+  pub node_left : (node : Node) (bits_new : FreeRecords) → node_at nodes node.rec ≡ Some node → AreFreed (Some node) bits bits_new →
+      AreKept (without node.rec nodes) (buried (Some node) rows) bits_new
+  node_left node bits_new stands freed =
+      left_by_kind (is_directory node.kind) node.rec node.ino bits_new (ap (λ found. is_some found) stands) freed
 
 abbrev no_row : Option Removed
 no_row = None
@@ -217,12 +242,60 @@ none_yet (suc count) (suc rec) = none_yet count rec
 
 -- what is kept where no file is removed
 pub begun : (nodes : List Node) (rows : List (Option Removed)) (bits : FreeRecords) → rows ≡ replicate 256 None →
-    ((rec : ℕ) → rec < 256 → is_free bits rec ≡ not (is_some (node_at nodes rec))) → AreKept nodes rows bits
-begun nodes rows bits same free =
+    ((rec : ℕ) → rec < 256 → is_free bits rec ≡ not (is_some (node_at nodes rec))) →
+    ((rec : ℕ) → is_some (node_at nodes rec) ≡ true → rec < 256) → AreKept nodes rows bits
+begun nodes rows bits same free within =
     let row : (rec : ℕ) → row_of rows rec ≡ None = λ rec. ap (λ all. row_of all rec) same ∙ none_yet 256 rec in
     record {
       free = λ rec low. free rec low ∙ sym (ap (λ row. not (is_some (node_at nodes rec)) && not (is_some row)) (row rec)
-      ∙ and_true (not (is_some (node_at nodes rec))));
+          ∙ and_true (not (is_some (node_at nodes rec))));
       apart = λ rec there. absurd (let none = ap (λ row. is_some row) (row rec) in cc);
+      within = within;
       size = ap length same ∙ length-replicate 256 no_row;
     }
+
+-- a node that moves is there before and after, and all others are as they were
+moved_alike : (node : Node) (nodes : List Node) → is_some (node_at nodes node.rec) ≡ true → (rec : ℕ) →
+    is_some (node_at (placed node (without node.rec nodes)) rec) ≡ is_some (node_at nodes rec)
+moved_alike node nodes there rec = elim (cases_Bool (nat_eq rec node.rec)) [
+  | inl t ↦
+      let same = eqb-true rec node.rec t in
+      ap (λ n. is_some (node_at (placed node (without node.rec nodes)) n)) same
+      ∙ ap (λ found. is_some found) (placed_same node (without node.rec nodes) (without_same node.rec nodes))
+      ∙ sym (ap (λ n. is_some (node_at nodes n)) same ∙ there)
+  | inr f ↦
+      let differs = eqb-false rec node.rec f in
+      ap (λ found. is_some found) (placed_other node (without node.rec nodes) rec differs ∙ without_other node.rec rec nodes differs)
+]
+
+-- a node moves, and the one that it replaces leaves
+pub node_moved : (nodes : List Node) (rows : List (Option Removed)) (bits bits_new : FreeRecords) (node : Node) (replaced : Option Node) →
+    AreKept nodes rows bits → is_some (node_at nodes node.rec) ≡ true →
+    ((other : Node) → replaced ≡ Some other → (node_at nodes other.rec ≡ Some other) × (other.rec ≢ node.rec)) →
+    AreFreed replaced bits bits_new →
+    AreKept (placed node (without node.rec (without_replaced (option_map (λ (n : Node). n.rec) replaced) nodes))) (buried replaced rows) bits_new
+node_moved nodes rows bits bits_new node None kept there leaves freed =
+    subst (λ (bits : FreeRecords). AreKept (placed node (without node.rec nodes)) rows bits) (sym freed)
+    (nodes_alike nodes rows bits kept (placed node (without node.rec nodes)) (moved_alike node nodes there))
+node_moved nodes rows bits bits_new node (Some other) kept there leaves freed =
+    let gone = leaves other refl in
+    let rest = without other.rec nodes in
+    let left = node_left nodes rows bits kept other bits_new gone.0 freed in
+    let still : is_some (node_at rest node.rec) ≡ true =
+    ap (λ found. is_some found) (without_other other.rec node.rec nodes (λ e. gone.1 (sym e))) ∙ there in
+    nodes_alike rest (buried (Some other) rows) bits_new left (placed node (without node.rec rest)) (moved_alike node rest still)
+
+-- what a move asks of the node that it moves, and of the one that it replaces
+
+some_there : (P : Node → Type 0) (found : Option Node) → IsSomeAnd found P → is_some found ≡ true
+some_there P None is = absurd is
+some_there P (Some node) is = refl
+
+pub node_stands : (tree : Namespace) (moved : Moved) → CanMove tree moved → is_some (node_at tree.nodes moved.node.rec) ≡ true
+node_stands tree moved can = some_there (IsSameNode moved.node) (node_at tree.nodes moved.node.rec) can.stands
+
+pub replaced_leaves : (tree : Namespace) (moved : Moved) → CanMove tree moved → (other : Node) → moved.replaced ≡ Some other →
+    (node_at tree.nodes other.rec ≡ Some other) × (other.rec ≢ moved.node.rec)
+replaced_leaves tree moved can other is =
+    let replaced = can.replaces other is in
+    (replaced.leaves.stands, replaced.differs)

@@ -1,10 +1,14 @@
 -- How a request of the kernel is answered.
 use Rattle.std.specs.Prelude.{ℕ, Option, Some, None, Result, Ok, Err}
+use Rattle.cfs_dir.specs.declared.change.Change.{Change}
+use Rattle.cfs_dir.specs.declared.change.Change.TheVariants as changes
 use Rattle.cfs_dir.specs.declared.posix.Posix.TheVariants.{TooManyFiles}
 use Rattle.cfs_names.specs.declared.store_refusal.StoreRefusal.{StoreRefusal}
 use Rattle.cfs_names.specs.declared.store_refusal.StoreRefusal.TheVariants as stored
 use Rattle.cfs_requests.specs.declared.name_refusal.NameRefusal.{NameRefusal}
 use Rattle.cfs_requests.specs.declared.name_refusal.NameRefusal.TheVariants as asked
+use Rattle.cfs_requests.specs.declared.opening.Opening.{Opening}
+use Rattle.cfs_requests.specs.declared.opening.Opening.TheVariants.{Found, Made}
 use Rattle.cfs_kernel.specs.declared.refusal.NsRefusal.{NsRefusal}
 use Rattle.cfs_kernel.specs.declared.refusal.NsRefusal.TheVariants as answers
 use Rattle.cfs_kernel.specs.States.{Kernel, record_of}
@@ -21,8 +25,17 @@ abbrev pub told : {X : Type 0} → Kernel X → NameRefusal → NsRefusal
 told kernel refusal =
     told_at kernel.requests (record_of kernel) kernel.names.tree.next refusal
 
--- what is answered where the tests are passed: the value once the change is stored
+-- why a change was not stored
+abbrev pub stored_told : StoreRefusal → NsRefusal
+stored_told stored.NoMemory = answers.NoMemory
+stored_told stored.Failed = answers.Failed
+
+-- what is answered where the tests are passed: the value, once the change is stored
 abbrev pub ended : {T : Type 0} → T → Result (Unit {0}) StoreRefusal → Result T NsRefusal
 ended value (Ok done) = Ok value
-ended value (Err stored.NoMemory) = Err answers.NoMemory
-ended value (Err stored.Failed) = Err answers.Failed
+ended value (Err refusal) = Err (stored_told refusal)
+
+-- the change of an open
+abbrev pub opened_change : Opening → Option Change
+opened_change (Found node) = None
+opened_change (Made node) = Some (changes.Create node)

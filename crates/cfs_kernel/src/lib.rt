@@ -6,11 +6,15 @@
 //! until its last grant is closed and its blocks are purged.
 #![tactic(auto)]
 
+mod calls;
+mod made;
 mod ns_state;
 mod opened;
 mod queues;
 mod refusal;
+mod storing;
 
+pub use made::Made;
 pub use ns_state::NsState;
 pub use opened::Opened;
 pub use refusal::NsRefusal;

@@ -153,9 +153,12 @@ impl<R: Region + Drop> NsState<R> {
 
 /// The records that no node of a tree has.
 fn free_records(tree: &Tree) -> FreeRecords
-    ensures { (rec : _) → rec < 256 →
+    ensures free { (rec : _) → rec < 256 →
         is_free result rec ≡ not (is_some (node_at tree.now.nodes rec)) }
+    ensures within { (rec : _) → is_some (node_at tree.now.nodes rec) ≡ true → rec < 256 }
 {
+    // its clause tells that it is a tree
+    let _next = tree.next();
     let mut free = FreeRecords::none();
     for rec in 0..RECORDS as u32 {
         if tree.node(rec).is_none() {

@@ -1,0 +1,22 @@
+use Rattle.std.proofs.Common.{◌≡◌, ◌≢◌, ◌∙◌, ap, sym, subst}
+use Rattle.std.specs.Prelude.{is_some}
+use Rattle.cfs_dir.specs.declared.node.Node.{Node}
+use Rattle.cfs_dir.specs.Namespace.{Namespace}
+use Rattle.cfs_names.proofs.Ends.{on_ok}
+use Rattle.cfs_kernel.specs.Records.{AreKept}
+use Rattle.cfs_kernel.proofs.Keeping.{node_moved, node_stands, replaced_leaves}
+use Rattle.cfs_kernel.proofs.ns_state.NsState.move_node.Goals as goal
+
+pub invariant_of-self-2 : goal.invariant_of-self-2
+invariant_of-self-2 g c =
+    let self = c.args.self.now in
+    let moved = c.args.moved.now in
+    let ok = sym c.is_err.ensures.value ∙ c.if-is_err.false in
+    let tree = on_ok c.move_node-result.result ok c.move_node-result.ensures.makes.made in
+    record {
+      records = subst (λ (tree : Namespace). AreKept tree.nodes c.bury.new.removed c.bury.new.free) (sym tree)
+          (rw c.bury.ensures.removed
+          (node_moved self.stored.tree.nodes self.removed self.free c.bury.new.free moved.node moved.replaced self.records
+          (node_stands self.stored.tree moved c.requires) (replaced_leaves self.stored.tree moved c.requires) c.bury.ensures.free));
+      counted = self.counted;
+    }
