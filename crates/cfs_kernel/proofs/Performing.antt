@@ -1,6 +1,7 @@
 -- How a request ends whose tests are passed.
 use Rattle.std.proofs.Common.{ℕ, ◌+◌, ◌-◌, ◌^◌, ◌≡◌, ◌≢◌, ◌⊎◌, Bool, true, false, List, Option, Some, None, Result, Ok, Err, inl, inr, refl, sym, ◌∙◌, ap, subst}
-use Rattle.std.specs.Prelude.{OnErr, OnOk}
+use Rattle.std.specs.Prelude.{IfOk, OnErr, OnOk}
+use Rattle.cfs_requests.specs.Steps.{Step}
 use Rattle.cfs_dir.specs.declared.change.Change.{Change}
 use Rattle.cfs_pmem.specs.declared.trace.Asked.{Asked}
 use Rattle.cfs_pmem.specs.Images.{Seen, WordStep}
@@ -33,6 +34,12 @@ lacking : {R : Type 0} {g : _} (old : NsState R g) (change : Change) (outcome : 
     (LacksRoom (stored_of old) → outcome ≡ Err stored.NoMemory) → Lacks (Some change) old → outcome ≡ Err stored.NoMemory
 lacking old change outcome unspent lacks none = elim none [ inl is ↦ absurd (unspent is) | inr room ↦ lacks room ]
 
+-- the step of every caller
+pub for_every : {T E : Type 0} {one two : Step} (left : Step) (result : Result T E) → one ≡ two → IfOk result (λ value. one ≡ left) →
+    IfOk result (λ value. (caller : ℕ) → two ≡ left)
+for_every left (Ok value) same is = λ caller. sym same ∙ is
+for_every left (Err refusal) same is = tt
+
 module _ {R : Type 0} {g : _} {T : Type 0} (see : R → Seen WordStep) (faults : R → ℕ) (obeys takes : Bool) (old : NsState R g) (asked : List Asked) where
   -- there is no number for a place
   pub spent : (change : Option Change) (value : T) (after : Kernel R) → IsSpent (kernel_of old) →
@@ -46,6 +53,20 @@ module _ {R : Type 0} {g : _} {T : Type 0} (see : R → Seen WordStep) (faults :
     attempts = λ differs. absurd (differs refl);
     lacks = λ _. refl;
     only = λ _ _. inl is;
+  }
+
+  -- a request that changes nothing takes its place
+  pub unchanged_then : (value : T) (after : Kernel R) (result : Result T NsRefusal) (new : NsState R g) → (IsSpent (kernel_of old) → ⊥) → result ≡ Ok value →
+      kernel_of new ≡ after → Rests asked (stored_of old) asked (stored_of new) → Performs see faults obeys takes None value after result asked old asked new
+  unchanged_then value after result new unspent told left rests = record {
+    outcome = Ok tt;
+    answer = told;
+    passed = left;
+    failed = tt;
+    without_memory = λ is. absurd (cc);
+    attempts = λ _. (refl, rests);
+    lacks = λ none. elim none [ inl is ↦ absurd (unspent is) | inr room ↦ absurd room ];
+    only = λ _ is. absurd (cc);
   }
 
   module _ (change : Change) (outcome : Result (Unit {0}) StoreRefusal) (asked_new : List Asked) (new : NsState R g)

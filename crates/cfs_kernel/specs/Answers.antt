@@ -1,14 +1,19 @@
 -- How a request of the kernel is answered.
-use Rattle.std.specs.Prelude.{ℕ, Option, Some, None, Result, Ok, Err}
+use Rattle.std.specs.Prelude.{ℕ, ◌+◌, Option, Some, None, Result, Ok, Err}
 use Rattle.cfs_dir.specs.declared.change.Change.{Change}
 use Rattle.cfs_dir.specs.declared.change.Change.TheVariants as changes
+use Rattle.cfs_dir.specs.declared.node.Node.{Node}
 use Rattle.cfs_dir.specs.declared.posix.Posix.TheVariants.{TooManyFiles}
 use Rattle.cfs_names.specs.declared.store_refusal.StoreRefusal.{StoreRefusal}
 use Rattle.cfs_names.specs.declared.store_refusal.StoreRefusal.TheVariants as stored
 use Rattle.cfs_requests.specs.declared.name_refusal.NameRefusal.{NameRefusal}
 use Rattle.cfs_requests.specs.declared.name_refusal.NameRefusal.TheVariants as asked
+use Rattle.cfs_queue.specs.Queue.{Slots}
 use Rattle.cfs_requests.specs.declared.opening.Opening.{Opening}
 use Rattle.cfs_requests.specs.declared.opening.Opening.TheVariants.{Found, Made}
+use Rattle.cfs_requests.specs.Steps.{grant_for, opened_node}
+use Rattle.cfs_words.specs.declared.flags.Flags.{Flags}
+use Rattle.cfs_kernel.specs.declared.opened.Opened.{Opened}
 use Rattle.cfs_kernel.specs.declared.refusal.NsRefusal.{NsRefusal}
 use Rattle.cfs_kernel.specs.declared.refusal.NsRefusal.TheVariants as answers
 use Rattle.cfs_kernel.specs.States.{Kernel, record_of}
@@ -39,3 +44,15 @@ ended value (Err refusal) = Err (stored_told refusal)
 abbrev pub opened_change : Opening → Option Change
 opened_change (Found node) = None
 opened_change (Made node) = Some (changes.Create node)
+
+-- what an open gives: the grant of a queue that was home
+abbrev pub gives : {R : Type 0} → Kernel R → ℕ → Flags → Opening → ℕ → Slots R
+    → Opened R
+gives kernel caller flags opening number queue =
+    let node : Node = opened_node opening in
+    record {
+      place = kernel.requests + 1;
+      grant = grant_for kernel.names.next_grant number caller flags node;
+      rec = node.rec;
+      queue = queue;
+    }

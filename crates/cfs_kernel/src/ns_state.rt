@@ -132,12 +132,11 @@ impl<R: Region + Drop> NsState<R> {
         self.free.lowest()
     }
 
-    /// How a refusal is told, where `rec` is the record that a node would take.
-    pub(crate) fn refused(&self, refusal: NameRefusal, rec: Option<u32>) -> NsRefusal
-        requires { rec ≡ record_of (kernel_of self.now) }
+    /// How a refusal is told.
+    pub(crate) fn refused(&self, refusal: NameRefusal) -> NsRefusal
         ensures { result ≡ told (kernel_of self.now) refusal }
     {
-        match (refusal, rec) {
+        match (refusal, self.free_record()) {
             (NameRefusal::Words(error), _) => NsRefusal::Path(error),
             (NameRefusal::Tree(Posix::TooManyFiles), None) => NsRefusal::NoRecord { records: 256 },
             (NameRefusal::Tree(Posix::TooManyFiles), Some(_)) => NsRefusal::NoNumber {

@@ -46,6 +46,13 @@ impl<R: Region + Drop> Queues<R> {
         self.grants.queues()
     }
 
+    /// The lowest queue that has no grant.
+    pub(crate) fn free(&self) -> Option<u32>
+        ensures { result ≡ free_queue self.now.grants }
+    {
+        self.grants.free_queue()
+    }
+
     /// The queues that are home, each at its number.
     pub(crate) fn into_home(self) -> Vec<Option<Queue<R>>>
         ensures { result ≡ self.home }
@@ -59,6 +66,8 @@ impl<R: Region + Drop> Queues<R> {
         ensures grants { self.new.grants ≡ set self.old.grants grant.queue (Some grant) }
         ensures home { self.new.home.items ≡ set self.old.home.items grant.queue None }
         ensures queue { home_at self.old.home.items grant.queue ≡ Some result }
+        ensures number { result.number ≡ grant.queue }
+        ensures whole { out_slots result ≡ [] }
     {
         let Some(queue) = self.home[grant.queue as usize].take() else {
             unreachable!()

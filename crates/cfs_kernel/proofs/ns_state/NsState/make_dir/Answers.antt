@@ -6,7 +6,6 @@ use Rattle.cfs_names.proofs.Ends.{on_ok}
 use Rattle.cfs_requests.specs.Looks.{makes}
 use Rattle.cfs_kernel.specs.Answers.{told}
 use Rattle.cfs_kernel.specs.States.{Kernel, after_make, kernel_of}
-
 use Rattle.cfs_kernel.proofs.Performing.{counted_as, failed_to_store, not_both, same_refusal, same_value, spent, stored_then}
 use Rattle.cfs_kernel.proofs.ns_state.NsState.make_dir.Goals as goal
 

@@ -43,3 +43,9 @@ invariant_of-self g c =
       out = rw c.give.ensures (rw c.take.ensures.after (others_set self.grants self.home.items queue (Some c.args.grant) None self.out refl));
       whole = rw c.take.ensures.after (whole_set self.home.items queue None self.whole (omega (arith, same, low)) (λ other is. absurd (cc)));
     }
+
+pub returns-clause-number : goal.returns-clause-number
+returns-clause-number g c = (c.args.self.now.whole c.args.grant.queue c.in-Some.queue (returns-clause-queue g c)).0
+
+pub returns-clause-whole : goal.returns-clause-whole
+returns-clause-whole g c = (c.args.self.now.whole c.args.grant.queue c.in-Some.queue (returns-clause-queue g c)).1
