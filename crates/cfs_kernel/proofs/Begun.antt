@@ -1,5 +1,5 @@
 -- The records that begin free: those without a node.
-use Rattle.std.proofs.Common.{ℕ, Option, Some, None, ◌+◌, ◌≡◌, ◌<◌, Bool, true, false, not, ◌&&◌, ◌||◌, List, inl, inr, refl, sym, ◌∙◌, ap, arith}
+use Rattle.std.proofs.Common.{ℕ, Some, None, ◌≡◌, ◌<◌, true, not, ◌&&◌, List, refl, arith}
 use Rattle.std.specs.Prelude.{is_some, nat_eq, nat_lt}
 use Rattle.cfs_dir.specs.declared.node.Node.{Node}
 use Rattle.cfs_dir.specs.Namespace.{node_at}

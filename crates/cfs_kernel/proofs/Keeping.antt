@@ -1,5 +1,5 @@
 -- Records that are kept: what changes at one of them.
-use Rattle.std.proofs.Common.{ℕ, zero, suc, ◌+◌, ◌≡◌, ◌≢◌, ◌<◌, ◌==◌, Bool, true, false, cond, not, ◌&&◌, ◌||◌, List, [], ◌∷◌, length, Option, Some, None, inl, inr, refl, sym, ◌∙◌, ap, subst, arith}
+use Rattle.std.proofs.Common.{ℕ, zero, suc, ◌+◌, ◌≡◌, ◌≢◌, ◌<◌, Bool, true, false, cond, not, ◌&&◌, ◌||◌, List, [], ◌∷◌, length, Option, Some, None, inl, inr, refl, sym, ◌∙◌, ap, subst, arith}
 use Rattle.std.specs.Option.{option_map}
 use Rattle.std.specs.Prelude.{IfSome, IsSomeAnd, is_some, nat_eq, replicate, set}
 use Rattle.std.proofs.Math.ListN.{length-set}
@@ -18,7 +18,7 @@ use Rattle.cfs_grants.specs.Removed.{first_dying, given_to, is_dying, kept_again
 use Rattle.cfs_kernel.specs.Records.{AreFreed, AreKept, IsFreed, buried, is_unused, unused_record}
 use Rattle.cfs_kernel.proofs.Lowest.{first_record, found_record, no_record}
 use Rattle.cfs_kernel.proofs.Nodes.{placed_other, placed_same, without_other, without_same}
-use Rattle.cfs_kernel.proofs.Rows.{at, at_within, set_other, set_same}
+use Rattle.cfs_kernel.proofs.Rows.{at_within, set_other, set_same}
 
 -- two rows that are there are alike to who asks no more
 alike : (one : Option Removed) {other : Option Removed} {row : Removed} → is_some one ≡ true → other ≡ Some row → is_some one ≡ is_some other

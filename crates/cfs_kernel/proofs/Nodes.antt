@@ -1,10 +1,10 @@
 -- The node of each record after a node has joined, left or moved.
-use Rattle.std.proofs.Common.{ℕ, ◌≡◌, ◌≢◌, List, [], ◌∷◌, Bool, true, false, cond, not, Option, Some, None, inl, inr, refl, sym, ◌∙◌, ap, subst}
-use Rattle.std.specs.Prelude.{find, is_some, nat_eq}
-use Rattle.std.proofs.lemmas.Bool.{cases_Bool, cond-false, cond-true, eq-eqb, eqb-false, eqb-true, ne_eqb}
+use Rattle.std.proofs.Common.{ℕ, ◌≡◌, ◌≢◌, List, [], ◌∷◌, Bool, true, false, cond, not, Some, None, inl, inr, refl, sym, ◌∙◌, ap}
+use Rattle.std.specs.Prelude.{nat_eq}
+use Rattle.std.proofs.lemmas.Bool.{cases_Bool, cond-false, cond-true, eq-eqb, eqb-true, ne_eqb}
 use Rattle.cfs_dir.specs.declared.node.Node.{Node}
 use Rattle.cfs_dir.specs.Namespace.{node_at, placed, without}
-use Rattle.cfs_dir.proofs.Members.{In, In-filter, find-none_of, find-placed_other, find-placed_same}
+use Rattle.cfs_dir.proofs.Members.{In-filter, find-none_of, find-placed_other, find-placed_same}
 
 pub placed_same : (node : Node) (nodes : List Node) → node_at nodes node.rec ≡ None → node_at (placed node nodes) node.rec ≡ Some node
 placed_same node nodes free = find-placed_same (λ n. nat_eq n.rec node.rec) node nodes (eq-eqb node.rec node.rec refl) free

@@ -1,6 +1,6 @@
 -- How a request ends whose tests are passed.
-use Rattle.std.proofs.Common.{ℕ, ◌+◌, ◌-◌, ◌^◌, ◌≡◌, ◌≢◌, ◌⊎◌, Bool, true, false, List, Option, Some, None, Result, Ok, Err, inl, inr, refl, sym, ◌∙◌, ap, subst}
-use Rattle.std.specs.Prelude.{IfOk, OnErr, OnOk}
+use Rattle.std.proofs.Common.{ℕ, ◌≡◌, ◌≢◌, Bool, false, List, Option, Some, None, Result, Ok, Err, inl, inr, refl, sym, ◌∙◌, ap}
+use Rattle.std.specs.Prelude.{IfOk, OnErr}
 use Rattle.cfs_requests.specs.Steps.{Step}
 use Rattle.cfs_dir.specs.declared.change.Change.{Change}
 use Rattle.cfs_pmem.specs.declared.trace.Asked.{Asked}
@@ -13,7 +13,7 @@ use Rattle.cfs_kernel.specs.declared.refusal.NsRefusal.{NsRefusal}
 use Rattle.cfs_kernel.specs.declared.refusal.NsRefusal.TheVariants as answers
 use Rattle.cfs_kernel.specs.Answers.{stored_told}
 use Rattle.cfs_kernel.specs.States.{IsSpent, Kernel, kernel_of, stored_of}
-use Rattle.cfs_kernel.specs.Storing.{Lacks, Performs, Refuses, Rests, Stores}
+use Rattle.cfs_kernel.specs.Storing.{Lacks, Performs, Rests, Stores}
 
 -- two refusals of one look
 pub same_refusal : {X R : Type 0} {one two : R} (look : Result X R) → look ≡ Err one → look ≡ Err two → one ≡ two
@@ -21,6 +21,9 @@ same_refusal look a b = let both = sym a ∙ b in cc
 
 pub same_value : {X R : Type 0} {one two : X} (look : Result X R) → look ≡ Ok one → look ≡ Ok two → one ≡ two
 same_value look a b = let both = sym a ∙ b in cc
+
+pub same_some : {X : Type 0} {one two : X} → Some one ≡ Some two → one ≡ two
+same_some e = cc
 
 pub not_both : {X R A : Type 0} {one : X} {two : R} (look : Result X R) → look ≡ Ok one → look ≡ Err two → A
 not_both look a b = absurd (let both = sym a ∙ b in cc)

@@ -1,9 +1,9 @@
 -- Rows that may be empty, each at its number.
-use Rattle.std.proofs.Common.{ℕ, zero, suc, ◌+◌, ◌≡◌, ◌≢◌, ◌<◌, ◌≤◌, Bool, true, false, not, List, [], ◌∷◌, length, map, Option, Some, None, inl, inr, refl, sym, ◌∙◌, ap, subst, arith}
-use Rattle.std.specs.Prelude.{get_or, is_some, nat_eq, replicate, set, slice_get}
+use Rattle.std.proofs.Common.{ℕ, zero, suc, ◌+◌, ◌≡◌, ◌≢◌, ◌<◌, ◌≤◌, Bool, true, false, not, List, [], ◌∷◌, length, map, Option, Some, None, inl, inr, refl, sym, ◌∙◌, ap, subst, arith, rules}
+use Rattle.std.specs.Prelude.{IfSome, IsSome, get_or, is_some, nat_eq, replicate, set, slice_get}
 use Rattle.std.specs.Option.{option_and_then}
 use Rattle.std.proofs.lemmas.Bool.{cases_Bool, eqb-false, eqb-true}
-use Rattle.std.proofs.lemmas.List.{length-map, length-set, map-set}
+use Rattle.std.proofs.lemmas.List.{length-map, map-set}
 use Rattle.cfs_grants.specs.declared.grant.Grant.{Grant}
 use Rattle.cfs_grants.specs.Grants.{free_from, free_queue}
 use Rattle.cfs_queue.specs.Queue.{Slots, out_slots}
@@ -74,6 +74,10 @@ not_neither these those i e low no_this no_that =
     cc
 
 -- the lowest queue that is free has no grant
+some_is : {X : Type 0} (row : Option X) → (row ≡ None → ⊥) → IsSome row
+some_is None never = absurd (never refl)
+some_is (Some x) never = search rules
+
 pub free_from_is : (first : ℕ) (rows : List (Option Grant)) (queue : ℕ) → free_from first rows ≡ Some queue →
     (i : ℕ) × (queue ≡ first + i) × (i < length rows) × (at rows i ≡ None)
 free_from_is first [] queue e = absurd (cc)
@@ -88,6 +92,15 @@ free_queue_is rows queue e =
     let found = free_from_is 0 rows queue e in
     let same : found.0 ≡ queue = let is = found.1 in omega (arith, is) in
     (subst (λ i. i < length rows) same found.2, subst (λ i. at rows i ≡ None) same found.3)
+
+-- that queue is home
+pub free_is_home : {X : Type 0} (grants : List (Option Grant)) (home : List (Option (Slots X))) (found : Option ℕ) →
+    map (λ grant. is_some grant) grants ≡ map (λ queue. not (is_some queue)) home → found ≡ free_queue grants →
+    IfSome found (λ queue. IsSome (home_at home queue))
+free_is_home grants home None out is = tt
+free_is_home grants home (Some queue) out is =
+    let free = free_queue_is grants queue (sym is) in
+    some_is (home_at home queue) (λ none. not_neither grants home queue out free.0 free.1 none)
 
 -- the rows of a table that begins: each queue is home, and none has a grant
 abbrev none_of : Option Grant

@@ -1,5 +1,5 @@
 -- The queues of a store: each is home, or out with its grant.
-use Rattle.std.specs.Prelude.{ℕ, ◌≡◌, Bool, not, List, [], Option, Some, is_some, map, slice_get}
+use Rattle.std.specs.Prelude.{ℕ, ◌≡◌, not, List, [], Option, Some, is_some, map, slice_get}
 use Rattle.std.specs.Option.{option_and_then}
 use Rattle.cfs_grants.specs.declared.grant.Grant.{Grant}
 use Rattle.cfs_queue.specs.Queue.{Slots, out_slots}

@@ -1,5 +1,5 @@
 -- What a request does to the stored tree and its devices.
-use Rattle.std.specs.Prelude.{ℕ, ◌+◌, ◌≡◌, ◌≢◌, ◌⊎◌, Bool, true, false, IsTrue, List, Option, Some, None, Result, Ok, Err, OnErr, OnOk, set}
+use Rattle.std.specs.Prelude.{ℕ, ◌+◌, ◌≡◌, ◌≢◌, ◌⊎◌, Bool, false, IsTrue, List, Option, Some, None, Result, Ok, Err, OnErr, OnOk, set}
 use Rattle.cfs_dir.specs.declared.change.Change.{Change}
 use Rattle.cfs_pmem.specs.declared.trace.Asked.{Asked}
 use Rattle.cfs_pmem.specs.Images.{IsImage, Seen, WordStep}

@@ -1,13 +1,14 @@
 //! The requests on names.
-ghost use Rattle.std.specs.Prelude.{◌≡◌, ◌≢◌, ◌≤◌, ◌+◌, ◌-◌, ◌^◌, ◌↔◌, [], Err, IfOk, IsSome, IsTrue, None, Ok, OnErr, OnOk, Some, is_some, length, true, false};
+ghost use Rattle.std.specs.Prelude.{◌≡◌, ◌≢◌, ◌≤◌, ◌+◌, ◌-◌, ◌^◌, ◌↔◌, [], Err, IfOk, IsTrue, None, Ok, OnErr, OnOk, Some, is_some, length, true, false};
 ghost use Rattle.cfs_dir.specs.declared.change.Change.TheVariants as changes;
 ghost use Rattle.cfs_dir.specs.Moved.{change_of};
 ghost use Rattle.cfs_dir.specs.Namespace.{node_at};
-ghost use Rattle.cfs_dir.specs.Tree.{CanLeave};
+ghost use Rattle.cfs_dir.specs.Tree.{CanJoin, CanLeave};
 ghost use Rattle.cfs_grants.specs.Grants.{free_queue, grant_at};
 ghost use Rattle.cfs_queue.specs.Queue.{out_slots};
 ghost use Rattle.cfs_requests.specs.Looks.{makes, moves, opens, removes, unlinks};
-ghost use Rattle.cfs_requests.specs.Steps.{closes_queue, done, granted, grant_for, makes_directory, moves_node, numbered, opened_node, opens_file, remove_step, removes_directory, stepped, unlinks_file};
+ghost use Rattle.cfs_requests.specs.Made.{IfMade};
+ghost use Rattle.cfs_requests.specs.Steps.{closes_queue, done, granted, grant_for, makes_directory, moves_node, numbered, open_step, opens_file, remove_step, removes_directory, stepped, unlinks_file};
 ghost use Rattle.cfs_kernel.specs.Answers.{ended, gives, opened_change, stored_told, told};
 ghost use Rattle.cfs_kernel.specs.Queues.{home_at};
 ghost use Rattle.cfs_kernel.specs.States.{after_close, after_make, after_move, after_open, after_remove, counted, kernel_of, names_of, record_of, stored_of, with_grant, IsSpent};
@@ -69,9 +70,6 @@ impl<R: Region + Drop> NsState<R> {
             (gives (kernel_of self.old) caller flags opening number queue).grant
             (kernel_of self.old)) result
             (P.asked power.old) self.old (P.asked power.new) self.new }
-        // A queue that has no grant is home.
-        ensures home { (number : _) → free_queue (names_of self.old).grants ≡ Some number →
-            IsSome (home_at (kernel_of self.old).home number) }
         ensures number { IfOk result (λ opened. opened.queue.number ≡ opened.grant.queue) }
         ensures whole { IfOk result (λ opened. out_slots opened.queue ≡ []) }
         ensures step { IfOk result (λ opened.
@@ -79,7 +77,46 @@ impl<R: Region + Drop> NsState<R> {
             (record_of (kernel_of self.old)) ≡ Some (granted opened.grant, names_of self.new)) }
     {
         let rec = self.free_record();
-        let opening = match look_to_open(self.stored.tree(), credential, path, flags, mode, rec) {
+        let looked = look_to_open(self.stored.tree(), credential, path, flags, mode, rec);
+        self.open(power, looked, caller, flags)
+    }
+
+    /// Opens a file that was looked up.
+    fn open<P: Power>(
+        &mut self,
+        power: &mut P,
+        looked: Result<Opening, NameRefusal>,
+        caller: u64,
+        flags: Flags,
+    ) -> Result<Opened<R>, NsRefusal>
+        requires joins { IfOk looked (λ opening.
+            IfMade opening (CanJoin (names_of self.old).tree)) }
+        requires takes { IfOk looked (λ opening.
+            IfMade opening (λ node. record_of (kernel_of self.old) ≡ Some node.rec)) }
+        ensures refused { (refusal : _) → looked ≡ Err refusal →
+            Refuses (told (kernel_of self.old) refusal) result
+            (P.asked power.old) self.old (P.asked power.new) self.new }
+        ensures no_queue { (opening : _) → looked ≡ Ok opening →
+            free_queue (names_of self.old).grants ≡ None →
+            Refuses (NsRefusal.NoQueue (length (names_of self.old).grants)) result
+            (P.asked power.old) self.old (P.asked power.new) self.new }
+        ensures performed { (opening : _) (number : _) (queue : _) → looked ≡ Ok opening →
+            free_queue (names_of self.old).grants ≡ Some number →
+            home_at (kernel_of self.old).home number ≡ Some queue →
+            Performs R.seen R.faults R.obeys_power (is_some (opened_change opening))
+            (opened_change opening)
+            (gives (kernel_of self.old) caller flags opening number queue)
+            (after_open opening
+            (gives (kernel_of self.old) caller flags opening number queue).grant
+            (kernel_of self.old)) result
+            (P.asked power.old) self.old (P.asked power.new) self.new }
+        ensures number { IfOk result (λ opened. opened.queue.number ≡ opened.grant.queue) }
+        ensures whole { IfOk result (λ opened. out_slots opened.queue ≡ []) }
+        ensures step { IfOk result (λ opened.
+            open_step (names_of self.old) caller flags (free_queue (names_of self.old).grants) looked
+            ≡ Some (granted opened.grant, names_of self.new)) }
+    {
+        let opening = match looked {
             Ok(opening) => opening,
             Err(refusal) => return Err(self.refused(refusal)),
         };

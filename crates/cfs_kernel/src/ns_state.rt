@@ -1,11 +1,12 @@
 //! The kernel's part.
-ghost use Rattle.std.specs.Prelude.{◌≡◌, ◌<◌, ◌≤◌, ◌+◌, IfOk, IfSome, None, Some, is_some, map, not, replicate, set, true, vec_len};
+ghost use Rattle.std.specs.Prelude.{◌≡◌, ◌<◌, ◌≤◌, ◌+◌, IfOk, IfSome, IsSome, None, Some, is_some, map, not, replicate, set, true, vec_len};
 ghost use Rattle.std.specs.Option.{ForSome};
 ghost use Rattle.cfs_dir.specs.Namespace.{node_at};
 ghost use Rattle.cfs_grants.specs.Free.{is_free};
+ghost use Rattle.cfs_grants.specs.Grants.{free_queue};
 ghost use Rattle.cfs_grants.specs.Removed.{first_dying, given_to, kept_again, row_of};
 ghost use Rattle.cfs_names.specs.StoredTrees.{tree_of};
-ghost use Rattle.cfs_kernel.specs.Queues.{AreWhole};
+ghost use Rattle.cfs_kernel.specs.Queues.{AreWhole, home_at};
 ghost use Rattle.cfs_kernel.specs.Records.{AreKept};
 
 use crate::queues::Queues;
@@ -76,6 +77,14 @@ impl<R: Region + Drop> NsState<R> {
         ensures { result.now ≡ (names_of self.now).tree }
     {
         self.stored.tree()
+    }
+
+    /// The queue that the next open would be granted, which is home: the lowest without a grant.
+    pub fn free_queue(&self) -> Option<u32>
+        ensures lowest { result ≡ free_queue (names_of self.now).grants }
+        ensures home { IfSome result (λ queue. IsSome (home_at (kernel_of self.now).home queue)) }
+    {
+        self.queues.free()
     }
 
     /// Gives the removed file of the lowest record to a pass that purges it, with its inode number:

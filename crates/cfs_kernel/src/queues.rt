@@ -1,5 +1,5 @@
 //! The queues of a store.
-ghost use Rattle.std.specs.Prelude.{◌≡◌, ◌<◌, ◌≤◌, [], IfOk, IfSome, None, Some, is_some, length, map, replicate, set, true, vec_len};
+ghost use Rattle.std.specs.Prelude.{◌≡◌, ◌<◌, ◌≤◌, [], IfOk, IfSome, IsSome, None, Some, is_some, length, map, replicate, set, true, vec_len};
 ghost use Rattle.cfs_grants.specs.Grants.{free_queue, grant_at};
 ghost use Rattle.cfs_queue.specs.Queue.{out_slots};
 ghost use Rattle.cfs_kernel.specs.Queues.{AreOut, AreWhole, home_at};
@@ -48,7 +48,8 @@ impl<R: Region + Drop> Queues<R> {
 
     /// The lowest queue that has no grant.
     pub(crate) fn free(&self) -> Option<u32>
-        ensures { result ≡ free_queue self.now.grants }
+        ensures lowest { result ≡ free_queue self.now.grants }
+        ensures home { IfSome result (λ queue. IsSome (home_at self.now.home.items queue)) }
     {
         self.grants.free_queue()
     }

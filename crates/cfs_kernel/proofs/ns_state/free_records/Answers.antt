@@ -1,4 +1,3 @@
-use Rattle.std.proofs.Common.{◌≡◌, ap}
 use Rattle.cfs_kernel.proofs.Begun.{rec_below}
 use Rattle.cfs_kernel.proofs.ns_state.free_records.Goals as goal
 

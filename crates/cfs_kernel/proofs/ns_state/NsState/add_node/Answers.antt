@@ -1,4 +1,4 @@
-use Rattle.std.proofs.Common.{◌≡◌, ◌∙◌, Some, ap, sym, subst}
+use Rattle.std.proofs.Common.{◌∙◌, sym, subst}
 use Rattle.cfs_dir.specs.Namespace.{Namespace}
 use Rattle.cfs_names.proofs.Ends.{on_ok}
 use Rattle.cfs_kernel.specs.Records.{AreKept}

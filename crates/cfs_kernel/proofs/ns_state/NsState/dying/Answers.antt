@@ -1,4 +1,4 @@
-use Rattle.std.proofs.Common.{◌≡◌, ◌∙◌, ap}
+use Rattle.std.proofs.Common.{◌∙◌, ap}
 use Rattle.cfs_grants.specs.Removed.{first_dying}
 use Rattle.cfs_kernel.proofs.Keeping.{row_given}
 use Rattle.cfs_kernel.proofs.ns_state.NsState.dying.Goals as goal

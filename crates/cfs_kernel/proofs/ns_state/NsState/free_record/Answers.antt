@@ -1,4 +1,3 @@
-use Rattle.std.proofs.Common.{◌≡◌}
 use Rattle.cfs_kernel.proofs.Keeping.{lowest_is}
 use Rattle.cfs_kernel.proofs.ns_state.NsState.free_record.Goals as goal
 

@@ -1,4 +1,3 @@
-use Rattle.std.proofs.Common.{◌≡◌}
 use Rattle.cfs_kernel.proofs.Keeping.{row_freed}
 use Rattle.cfs_kernel.proofs.ns_state.NsState.freed.Goals as goal
 

@@ -1,11 +1,11 @@
-use Rattle.std.proofs.Common.{rules, ℕ, ◌≡◌, ◌∙◌, ◌+◌, Ok, Err, Option, Some, true, refl, sym, ap}
+use Rattle.std.proofs.Common.{rules, ℕ, ◌≡◌, ◌∙◌, ◌+◌, Err, Option, true, refl, sym, ap}
 use Rattle.cfs_dir.specs.Namespace.{Namespace}
 use Rattle.cfs_dir.specs.declared.change.Change.TheVariants as changes
 use Rattle.std.specs.Result.{is_err}
 use Rattle.cfs_names.proofs.Ends.{on_ok}
 use Rattle.cfs_requests.specs.Looks.{makes}
 use Rattle.cfs_kernel.specs.Answers.{told}
-use Rattle.cfs_kernel.specs.States.{Kernel, after_make, kernel_of}
+use Rattle.cfs_kernel.specs.States.{kernel_of}
 use Rattle.cfs_kernel.proofs.Performing.{counted_as, failed_to_store, not_both, same_refusal, same_value, spent, stored_then}
 use Rattle.cfs_kernel.proofs.ns_state.NsState.make_dir.Goals as goal
 

@@ -1,6 +1,4 @@
-use Rattle.std.proofs.Common.{◌≡◌, ◌≢◌, ◌∙◌, ap, sym, subst}
-use Rattle.std.specs.Prelude.{is_some}
-use Rattle.cfs_dir.specs.declared.node.Node.{Node}
+use Rattle.std.proofs.Common.{◌∙◌, sym, subst}
 use Rattle.cfs_dir.specs.Namespace.{Namespace}
 use Rattle.cfs_names.proofs.Ends.{on_ok}
 use Rattle.cfs_kernel.specs.Records.{AreKept}

@@ -1,4 +1,4 @@
-use Rattle.std.proofs.Common.{◌≡◌, ◌∙◌, ap, refl, rules}
+use Rattle.std.proofs.Common.{◌∙◌, ap, refl, rules}
 use Rattle.std.specs.Prelude.{is_some, not}
 use Rattle.cfs_dir.specs.Namespace.{Namespace, node_at}
 use Rattle.cfs_kernel.proofs.Keeping.{begun}

@@ -1,8 +1,7 @@
-use Rattle.std.proofs.Common.{rules, ℕ, ◌≡◌, ◌∙◌, ◌+◌, Ok, Err, Some, None, false, true, refl, sym, ap, subst}
-use Rattle.cfs_dir.specs.Namespace.{Namespace, node_at}
+use Rattle.std.proofs.Common.{rules, ◌≡◌, ◌∙◌, ◌+◌, false, refl, sym, ap, subst}
+use Rattle.cfs_dir.specs.Namespace.{Namespace}
 use Rattle.cfs_dir.specs.Moved.{CanMove, change_of}
 use Rattle.cfs_requests.specs.Looks.{moves}
-use Rattle.cfs_kernel.specs.States.{counted, kernel_of}
 use Rattle.cfs_kernel.proofs.Performing.{failed_to_store, same_value, spent, unchanged_then}
 use Rattle.cfs_kernel.proofs.ns_state.NsState.rename.Goals as goal
 

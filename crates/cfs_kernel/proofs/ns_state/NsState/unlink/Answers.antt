@@ -1,9 +1,9 @@
-use Rattle.std.proofs.Common.{◌≡◌, ◌∙◌, Result, Some, ap}
+use Rattle.std.proofs.Common.{◌∙◌, Result, Some, ap}
 use Rattle.cfs_dir.specs.Namespace.{Namespace}
 use Rattle.cfs_dir.specs.declared.node.Node.{Node}
 use Rattle.cfs_requests.specs.declared.name_refusal.NameRefusal.{NameRefusal}
 use Rattle.cfs_requests.specs.Looks.{unlinks}
-use Rattle.cfs_requests.specs.Steps.{Step, done, remove_step}
+use Rattle.cfs_requests.specs.Steps.{done, remove_step}
 use Rattle.cfs_kernel.specs.States.{names_of}
 use Rattle.cfs_kernel.proofs.Performing.{for_every}
 use Rattle.cfs_kernel.proofs.ns_state.NsState.unlink.Goals as goal

@@ -1,4 +1,4 @@
-use Rattle.std.proofs.Common.{rules, ◌≡◌, ◌<◌, ◌∙◌, length, None, Some, refl, set, sym, ap, vec_len, arith}
+use Rattle.std.proofs.Common.{rules, ◌≡◌, ◌∙◌, length, None, Some, refl, set, sym, ap, vec_len, arith}
 use Rattle.cfs_queue.specs.Queue.{out_slots}
 use Rattle.cfs_kernel.proofs.Rows.{at_within, others_length, others_set, whole_set}
 use Rattle.cfs_kernel.proofs.queues.Queues.close.Goals as goal

@@ -1,7 +1,5 @@
-use Rattle.std.proofs.Common.{rules, ℕ, ◌≡◌, ◌<◌, ◌∙◌, length, not, None, Some, refl, sym, ap, subst, vec_len, arith}
-use Rattle.std.specs.Prelude.{is_some}
+use Rattle.std.proofs.Common.{rules, ◌≡◌, ◌∙◌, length, None, Some, refl, sym, vec_len, arith}
 use Rattle.cfs_kernel.proofs.Rows.{free_queue_is, not_neither, others_length, others_set, row_read, whole_set}
-use Rattle.std.proofs.lemmas.Bool.{cases_Bool, eqb-false, eqb-true}
 use Rattle.cfs_kernel.proofs.queues.Queues.give.Goals as goal
 
 pub index_mut-requires : goal.index_mut-requires

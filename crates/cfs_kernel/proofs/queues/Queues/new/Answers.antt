@@ -1,5 +1,5 @@
-use Rattle.std.proofs.Common.{rules, ◌≡◌, ◌∙◌, length, map, None, Some, refl, sym, ap, vec_len}
-use Rattle.std.specs.Prelude.{is_some, not, replicate}
+use Rattle.std.proofs.Common.{rules, ◌≡◌, length, None, vec_len}
+use Rattle.std.specs.Prelude.{replicate}
 use Rattle.cfs_kernel.proofs.Rows.{all_out}
 use Rattle.cfs_kernel.proofs.queues.Queues.new.Goals as goal
 
