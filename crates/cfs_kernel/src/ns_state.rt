@@ -12,7 +12,7 @@ ghost use Rattle.cfs_kernel.specs.Records.{AreKept};
 use crate::queues::Queues;
 use crate::refusal::NsRefusal;
 use cfs_dir::{Posix, Tree};
-use cfs_grants::{FreeRecords, RECORDS, RemovedFiles};
+use cfs_grants::{FreeRecords, Grants, RECORDS, RemovedFiles};
 use cfs_names::StoredTree;
 use cfs_pmem::Region;
 use cfs_queue::Queue;
@@ -77,6 +77,20 @@ impl<R: Region + Drop> NsState<R> {
         ensures { result.now ≡ (names_of self.now).tree }
     {
         self.stored.tree()
+    }
+
+    /// The grants that stand, each at its queue.
+    pub fn grants(&self) -> &Grants
+        ensures { result.now ≡ (names_of self.now).grants }
+    {
+        self.queues.grants()
+    }
+
+    /// The removed files, each at its record.
+    pub fn removed(&self) -> &RemovedFiles
+        ensures { result.now ≡ (kernel_of self.now).removed }
+    {
+        &self.removed
     }
 
     /// The queue that the next open would be granted, which is home: the lowest without a grant.

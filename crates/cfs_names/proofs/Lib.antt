@@ -3,4 +3,3 @@ pub mod Worlds
 pub mod Recovering
 pub mod Ends
 pub mod Tellable
-pub mod Blanks

@@ -11,6 +11,3 @@ mod stored_tree;
 
 pub use store_refusal::StoreRefusal;
 pub use stored_tree::StoredTree;
-
-#[cfg(test)]
-mod tests;

@@ -8,7 +8,7 @@ use Rattle.cfs_journal.specs.Journals.{changes_of, regions_of, through_of}
 use Rattle.cfs_names.proofs.Ends.{on_ok}
 use Rattle.cfs_names.proofs.Recovering.{behind_fresh}
 use Rattle.cfs_names.proofs.Worlds.{apart_tables}
-use Rattle.cfs_names.proofs.tests.begun.Goals as goal
+use Rattle.cfs_fresh.proofs.names.stored_tree.Goals as goal
 
 pub new-requires-clause-behind : goal.new-requires-clause-behind
 new-requires-clause-behind c =

@@ -4,7 +4,7 @@ use Rattle.cfs_pmem.specs.declared.mem_region.MemRegion.{MemRegion}
 use Rattle.cfs_pmem.specs.Images.{Seen, WordStep}
 use Rattle.cfs_journal.specs.Standing.{AreBlank}
 use Rattle.cfs_journal.proofs.Blanks.{blanks, blanks_are_blank, blanks_more, blanks_none}
-use Rattle.cfs_names.proofs.tests.blank_journal.Goals as goal
+use Rattle.cfs_fresh.proofs.names.blank_journal.Goals as goal
 
 pub loop-device-init : goal.loop-device-init
 loop-device-init c = (ap (λ (xs : List MemRegion). map (λ (r : MemRegion). r.seen) xs) c.in_ok-records.ensures.items ∙ blanks_none, omega arith)
