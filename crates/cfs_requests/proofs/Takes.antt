@@ -65,7 +65,7 @@ passed_by : {X : Type 0} (step : Result X Posix) (value : X) → by_tree step �
 passed_by (Ok value') value e = cc
 passed_by (Err refusal) value e = absurd (cc)
 
-passed_words : {X : Type 0} (words : Option Posix) (step : Result X Posix) (value : X) → unless_words words step ≡ Ok value → step ≡ Ok value
+pub passed_words : {X : Type 0} (words : Option Posix) (step : Result X Posix) (value : X) → unless_words words step ≡ Ok value → step ≡ Ok value
 passed_words (Some refusal) step value e = absurd (cc)
 passed_words None step value e = passed_by step value e
 
@@ -81,7 +81,7 @@ not_refused : (b : Bool) (refusal : Posix) (there : Result Opening Posix) (node 
 not_refused true refusal there node never e = cc
 not_refused false refusal there node never e = never e
 
-abbrev opened_when : Credential → Flags → Node → Result Opening Posix
+abbrev pub opened_when : Credential → Flags → Node → Result Opening Posix
 opened_when credential flags there = cond (not (has_access credential there flags)) (Err PermissionDenied) (Ok (Found there))
 
 found_when_found : (credential : Credential) (flags : Flags) (there node : Node) → found_when credential flags there ≡ Ok (Made node) → ⊥

@@ -1,18 +1,19 @@
 -- What each request on names does, and whether its words or the tree refuse it.
-use Rattle.std.specs.Prelude.{ℕ, List, [], ◌∷◌, Option, Some, None, Result, Ok, Err}
+use Rattle.std.specs.Prelude.{ℕ, ◌≡◌, true, false, List, [], ◌∷◌, Option, Some, None, Result, Ok, Err}
 use Rattle.cfs_cred.specs.declared.credential.Credential.{Credential}
 use Rattle.cfs_dir.specs.declared.kind.Kind.TheVariants.{Directory}
 use Rattle.cfs_dir.specs.declared.moved.Moved.{Moved}
 use Rattle.cfs_dir.specs.declared.node.Node.{Node}
 use Rattle.cfs_dir.specs.declared.posix.Posix.{Posix}
 use Rattle.cfs_dir.specs.declared.posix.Posix.TheVariants.{InvalidArgument}
-use Rattle.cfs_dir.specs.Namespace.{Namespace}
+use Rattle.cfs_dir.specs.Namespace.{Namespace, is_directory}
 use Rattle.cfs_dir.specs.Rename.{paths_refusal, renamed}
 use Rattle.cfs_dir.specs.Step.{made, path_refusal, removed_directory, unlinked}
 use Rattle.cfs_requests.specs.declared.name_refusal.NameRefusal.{NameRefusal}
 use Rattle.cfs_requests.specs.declared.name_refusal.NameRefusal.TheVariants.{Tree, Words}
 use Rattle.cfs_requests.specs.declared.opening.Opening.{Opening}
-use Rattle.cfs_requests.specs.Opens.{opened, words_refusal}
+use Rattle.cfs_requests.specs.declared.opening.Opening.TheVariants.{Found}
+use Rattle.cfs_requests.specs.Opens.{has_access, opened, words_refusal}
 use Rattle.cfs_words.specs.declared.flags.Flags.{Flags}
 
 -- what the tree refuses
@@ -54,3 +55,11 @@ abbrev pub moves : Namespace → Credential → List (List ℕ) → List (List �
     → Result Moved NameRefusal
 moves namespace credential from to =
     unless_words (paths_refusal from to) (renamed namespace credential from to)
+
+-- An open finds no directory, and no file for an access that its user has no right to.
+abbrev pub FoundIsAllowed : Type 0
+FoundIsAllowed =
+    (namespace : Namespace) (credential : Credential) (path : List (List ℕ)) (flags : Flags)
+    (mode : ℕ) (rec : Option ℕ) (node : Node) →
+    opens namespace credential path flags mode rec ≡ Ok (Found node) →
+    (is_directory node.kind ≡ false) × (has_access credential node flags ≡ true)

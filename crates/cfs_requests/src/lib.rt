@@ -12,7 +12,7 @@ mod opening;
 #[cfg(test)]
 mod tests;
 
-pub use laws::orders_go_on;
+pub use laws::{found_is_allowed, orders_go_on};
 pub use look::{look_to_make, look_to_move, look_to_open, look_to_remove, look_to_unlink};
 pub use name_refusal::NameRefusal;
 pub use opening::Opening;
