@@ -1,3 +1,5 @@
+ghost use Rattle.std.specs.Prelude.{◌≤◌};
+
 use cfs_cred::Credential;
 use cfs_dir::Path;
 use cfs_fresh::ns_state;
@@ -48,7 +50,9 @@ fn flags_of(letters: &str) -> Flags {
 }
 
 /// The permission bits of three octal digits.
-fn mode_of(digits: &str) -> u16 {
+fn mode_of(digits: &str) -> u16
+    ensures { result ≤ 511 }
+{
     u16::from_str_radix(digits, 8).unwrap_or(0).min(511)
 }
 
@@ -122,8 +126,11 @@ impl Bench {
     /// Closes the grant of the queue that was given last.
     fn close(&mut self) -> Result<String, Fail> {
         let queue = self.out.pop().ok_or("no queue is out")?;
-        if !queue.is_whole() || self.state.grants().get(queue.number()).is_none() {
-            return Err(Fail::from("a queue that is out has its grant"));
+        if !queue.is_whole() {
+            return Err(Fail::from("a slot of the queue is out"));
+        }
+        if self.state.grants().get(queue.number()).is_none() {
+            return Err(Fail::from("the queue has no grant"));
         }
         match self.state.close_grant(queue) {
             Ok(place) => Ok(format!(in self.alloc; "at {place}")?),

@@ -1,5 +1,5 @@
 -- What an open finds, its user may open.
-use Rattle.std.proofs.Common.{◌≡◌, ℕ, List, Bool, true, false, cond, Option, Some, None, Result, Ok, Err, inl, inr, refl, sym, ◌∙◌, ap}
+use Rattle.std.proofs.Common.{◌≡◌, ℕ, List, Bool, true, false, cond, Option, Result, Ok, Err, inl, inr, refl, sym, ◌∙◌, ap}
 use Rattle.std.specs.Prelude.{not}
 use Rattle.std.proofs.lemmas.Bool.{cases_Bool, cond-true, cond-false}
 use Rattle.cfs_cred.specs.declared.credential.Credential.{Credential}
@@ -40,8 +40,7 @@ when_found credential flags there node e = elim (cases_Bool (is_directory there.
         | inr g ↦
             let one : Result Opening Posix = Ok (Found there) in
             let is : one ≡ Ok (Found node) = sym (cond-false (not (has_access credential there flags)) (Err PermissionDenied) one g) ∙ rest in
-            let same : there ≡ node = cc in
-            (
+            let same : there ≡ node = cc in (
               ap (λ (n : Node). is_directory n.kind) (sym same) ∙ f,
               ap (λ (n : Node). has_access credential n flags) (sym same) ∙ not_not (has_access credential there flags) g,
             )
