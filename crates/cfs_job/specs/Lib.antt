@@ -1,0 +1,6 @@
+pub mod Counts
+pub mod Ops
+pub mod Stands
+pub mod Steps
+pub mod Tiles
+pub mod Views

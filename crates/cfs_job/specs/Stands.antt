@@ -1,0 +1,63 @@
+-- What a job is given, and what its blocks keep.
+use Rattle.std.specs.Prelude.{ℕ, ◌+◌, ◌≤◌, ◌<◌, ◌≡◌, Bool, true, false, ◌&&◌, Option, Some, None, List, [], ◌∷◌, length, take, drop, nat_lt}
+use Rattle.cfs_file.specs.Span.{meets, span}
+use Rattle.cfs_file.specs.declared.sizes.TheConstants.{BLOCK_LEN, FILE_BLOCKS}
+use Rattle.cfs_file.specs.declared.span.Span.{Span}
+use Rattle.cfs_core.specs.Words.{block_span, piece_in}
+use Rattle.cfs_pmem.specs.Images.{Seen, WordStep, IsImage}
+use Rattle.cfs_block.specs.BlockImages.{BlockStep, Content, AllBlockImages, IsRangedFrom, content_of}
+use Rattle.cfs_slot.specs.Words.{gate_of}
+use Rattle.cfs_job.specs.Ops.{count_in, place_in}
+use Rattle.cfs_job.specs.Views.{TileView, payload_seen, request_seen}
+
+-- these are the positions of the request in the slots
+abbrev pub IsSpanOf : Span → List (Seen WordStep) → Type 0
+IsSpanOf positions slots = positions ≡ span (request_seen slots) 0
+
+-- a block of a file that has one of the positions
+abbrev pub is_touched : Span → ℕ → Bool
+is_touched positions at = nat_lt at FILE_BLOCKS && meets positions (block_span at)
+
+-- The blocks of a job are such blocks, the first below the second, and there is a second one only
+-- beside a first.
+abbrev pub are_touched : Span → Option ℕ → Option ℕ → Bool
+are_touched positions None None = true
+are_touched positions None (Some second) = false
+are_touched positions (Some first) None = is_touched positions first
+are_touched positions (Some first) (Some second) =
+    is_touched positions first && (is_touched positions second && nat_lt first second)
+
+-- the request's gate is open in every image, with this place
+abbrev pub IsOpen : List (Seen WordStep) → ℕ → Type 0
+IsOpen [] place = ⊥
+IsOpen (head ∷ tails) place = (image : List ℕ) → IsImage head.history image → gate_of image ≡ place
+
+abbrev pub IsOpenFor : {A : Type 0} → Option A → List (Seen WordStep) → ℕ → Type 0
+IsOpenFor None slots place = Unit {0}
+IsOpenFor (Some block) slots place = IsOpen slots place
+
+-- a block has the request's bytes at its positions
+abbrev pub HasPiece : List ℕ → Span → ℕ → Content → Type 0
+HasPiece payload positions at content =
+    take (count_in positions at) (drop (place_in positions at) content.bytes)
+    ≡ piece_in payload positions at
+
+-- Each image of a block is one from when the job came by it, but for the request's own positions.
+-- Once it was written these read as the request's bytes, and once it was flushed too they are its
+-- bytes in each image.
+pub record TileKeeps (payload : List ℕ) (positions : Span) (tile : TileView) : Type 0 where
+  pub others : AllBlockImages tile.seen
+      (IsRangedFrom tile.taken (place_in positions tile.at) (count_in positions tile.at))
+  pub order : tile.flushed ≡ true → tile.written ≡ true
+  pub written : tile.written ≡ true → HasPiece payload positions tile.at (content_of tile.seen)
+  pub flushed : tile.flushed ≡ true →
+      AllBlockImages tile.seen (HasPiece payload positions tile.at)
+
+abbrev pub Keeps : List ℕ → Span → Option TileView → Type 0
+Keeps payload positions None = Unit {0}
+Keeps payload positions (Some tile) = TileKeeps payload positions tile
+
+pub record TilesKeep (payload : List ℕ) (positions : Span) (first second : Option TileView)
+    : Type 0 where
+  pub of_first : Keeps payload positions first
+  pub of_second : Keeps payload positions second

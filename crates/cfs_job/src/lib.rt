@@ -1,0 +1,11 @@
+//! Jobs: a worker carries out one live request, in at most two blocks of its file.
+#![tactic(auto)]
+
+mod lent;
+mod piece;
+mod tile;
+mod turn;
+
+pub use lent::Lent;
+pub use tile::Tile;
+pub use turn::Turn;
