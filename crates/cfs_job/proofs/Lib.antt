@@ -1,3 +1,5 @@
 pub mod CauseLemmas
 pub mod OpLemmas
 pub mod PieceLemmas
+pub mod SpanLemmas
+pub mod TileLemmas

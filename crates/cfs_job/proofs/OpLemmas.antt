@@ -169,3 +169,11 @@ flush_made {T} {E} {obeys_slots} {obeys_block} {keeps} {asked_old} {asked_new} {
       reads = nothing_asked slots asked_old;
       moments = extended _ (begun asked_old old first) err some all;
     }
+
+pub flush_failed : {T E : Type 0} {obeys_slots obeys_block keeps : Bool} {result : Result T E} {asked_old asked_new : List Asked} {old new : Seen BlockStep} (slots : List ℕ) (e : E) → result ≡ Err e
+    → length (content_of old).bytes ≡ 4096 → new ≡ unflushed old
+    → AsksSome (devices_of old) asked_old asked_new → (IsTrue obeys_block → asked_new ≡ Step old.device true false ∷ asked_old)
+    → WorksOn obeys_slots obeys_block keeps (IsBlockImage old.history) slots (on_block flush ∷ []) result asked_old old asked_new new
+flush_failed {T} {E} {obeys_slots} {obeys_block} {keeps} {result} {asked_old} {asked_new} {old} {new} slots e is full err some once =
+    subst (λ r. WorksOn obeys_slots obeys_block keeps (IsBlockImage old.history) slots (on_block flush ∷ []) r asked_old old asked_new new) (sym is)
+    (flush_made {T = T} slots (Err e) full tt err some once)

@@ -20,12 +20,13 @@ is_touched positions at = nat_lt at FILE_BLOCKS && meets positions (block_span a
 
 -- The blocks of a job are such blocks, the first below the second, and there is a second one only
 -- beside a first.
-abbrev pub are_touched : Span → Option ℕ → Option ℕ → Bool
+abbrev pub are_touched : Span → Option TileView → Option TileView → Bool
 are_touched positions None None = true
 are_touched positions None (Some second) = false
-are_touched positions (Some first) None = is_touched positions first
+are_touched positions (Some first) None = is_touched positions first.at
 are_touched positions (Some first) (Some second) =
-    is_touched positions first && (is_touched positions second && nat_lt first second)
+    is_touched positions first.at
+    && (is_touched positions second.at && nat_lt first.at second.at)
 
 -- the request's gate is open in every image, with this place
 abbrev pub IsOpen : List (Seen WordStep) → ℕ → Type 0
@@ -57,7 +58,12 @@ abbrev pub Keeps : List ℕ → Span → Option TileView → Type 0
 Keeps payload positions None = Unit {0}
 Keeps payload positions (Some tile) = TileKeeps payload positions tile
 
-pub record TilesKeep (payload : List ℕ) (positions : Span) (first second : Option TileView)
-    : Type 0 where
-  pub of_first : Keeps payload positions first
-  pub of_second : Keeps payload positions second
+-- The span is that of the request in these slots; the blocks are some of those that it touches;
+-- where there is one, the gate is open in every image; and each keeps what is said above.
+pub record IsSound (slots : List (Seen WordStep)) (place : ℕ) (positions : Span)
+    (first second : Option TileView) : Type 0 where
+  pub spans : IsSpanOf positions slots
+  pub touched : are_touched positions first second ≡ true
+  pub opened : IsOpenFor first slots place
+  pub of_first : Keeps (payload_seen slots) positions first
+  pub of_second : Keeps (payload_seen slots) positions second

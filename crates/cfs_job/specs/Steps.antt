@@ -1,5 +1,5 @@
 -- The steps of a job: which come, and what each does.
-use Rattle.std.specs.Prelude.{ℕ, ◌+◌, ◌≡◌, Bool, true, false, not, if◌then◌else◌, Option, Some, None, List, Result, is_ok}
+use Rattle.std.specs.Prelude.{ℕ, ◌+◌, ◌≡◌, Bool, true, false, not, if◌then◌else◌, Option, Some, None, List, [], Result, is_ok}
 use Rattle.std.specs.List.{flat_map}
 use Rattle.cfs_pmem.specs.declared.trace.Asked.{Asked}
 use Rattle.cfs_pmem.specs.Images.{Seen, WordStep, devices_of}
@@ -46,18 +46,17 @@ pub record Writes {T E : Type 0} (obeys_slots obeys_block keeps_refused : Bool)
       (flat_map devices_of slots) (write_ops slots span old.at) result
       asked_old old.seen asked_new new.seen
 
--- A block is flushed, and noted as flushed where that went well.
-pub record Flushes {T E : Type 0} (obeys_slots obeys_block keeps_refused : Bool)
-    (slots : List (Seen WordStep)) (result : Result T E)
+-- A block is flushed, and noted as flushed where that went well. No slot is read.
+pub record Flushes {T E : Type 0} (obeys_block keeps_refused : Bool) (result : Result T E)
     (asked_old : List Asked) (old : TileView) (asked_new : List Asked) (new : TileView)
     : Type 0 where
   pub noted : new ≡ record old { seen = new.seen; flushed = is_ok result }
-  pub works : WorksOn obeys_slots obeys_block keeps_refused (IsBlockImage old.seen.history)
-      (flat_map devices_of slots) flush_ops result asked_old old.seen asked_new new.seen
+  pub works : WorksOn true obeys_block keeps_refused (IsBlockImage old.seen.history) []
+      flush_ops result asked_old old.seen asked_new new.seen
 
--- `Step` was made on one of the blocks, and all else of the job is as it was.
-pub record IsStepOn (Step : TileView → TileView → Type 0) (tile : Option TileView)
-    (with_tile : TileView → JobView) (new : JobView) : Type 0 where
+-- `Step` was made on a block, and all else is as it was.
+pub record IsStepOn {A : Type 0} (Step : TileView → TileView → Type 0) (tile : Option TileView)
+    (with_tile : TileView → A) (new : A) : Type 0 where
   pub was : TileView
   pub now : TileView
   pub here : tile ≡ Some was
@@ -76,12 +75,10 @@ MakesTurn obeys_slots obeys_block keeps_refused turns.WriteSecond result asked_o
     asked_old was asked_new now)
     old.second (λ now. record old { second = Some now }) new
 MakesTurn obeys_slots obeys_block keeps_refused turns.FlushFirst result asked_old old asked_new new =
-    IsStepOn (λ was now. Flushes obeys_slots obeys_block keeps_refused old.slots result
-    asked_old was asked_new now)
+    IsStepOn (λ was now. Flushes obeys_block keeps_refused result asked_old was asked_new now)
     old.first (λ now. record old { first = Some now }) new
 MakesTurn obeys_slots obeys_block keeps_refused turns.FlushSecond result asked_old old asked_new new =
-    IsStepOn (λ was now. Flushes obeys_slots obeys_block keeps_refused old.slots result
-    asked_old was asked_new now)
+    IsStepOn (λ was now. Flushes obeys_block keeps_refused result asked_old was asked_new now)
     old.second (λ now. record old { second = Some now }) new
 MakesTurn obeys_slots obeys_block keeps_refused turns.Nothing result asked_old old asked_new new =
     (is_ok result ≡ true) × (asked_new ≡ asked_old) × (new ≡ old)

@@ -7,5 +7,4 @@ mod tile;
 mod turn;
 
 pub use lent::Lent;
-pub use tile::Tile;
 pub use turn::Turn;

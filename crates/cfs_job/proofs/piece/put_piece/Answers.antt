@@ -1,7 +1,7 @@
 use Rattle.std.proofs.Common.{ℕ, ◌-◌, ◌+◌, ◌*◌, ◌<◌, ◌≤◌, ◌≡◌, ◌∙◌, List, [], ◌∷◌, ◌++◌, Result, Ok, Err, length, map, take, drop, refl, sym, ap, subst, arith, rules}
 use Rattle.std.proofs.lemmas.List.{length-replicate, take-replicate}
 use Rattle.std.proofs.lemmas.Result.{err_from_is_err_and}
-use Rattle.cfs_core.specs.Words.{piece_in}
+use Rattle.cfs_core.specs.Words.{end_in, piece_in, start_in}
 use Rattle.cfs_pmem.specs.Images.{Seen, WordStep}
 use Rattle.cfs_block.specs.BlockImages.{BlockStep}
 use Rattle.cfs_block.specs.BlockOps.{put_bytes}
@@ -43,14 +43,14 @@ size_is from to start end f t = cc
 pub slice_bounds-fetch-end : goal.slice_bounds-fetch-end
 slice_bounds-fetch-end g c =
     let count : ℕ = c.end_in.result - c.start_in-start.result in
-    let size : count ≡ count_in c.args.span c.args.at = size_is c.start_in-start.result c.end_in.result _ _ c.start_in-start.ensures c.end_in.ensures in
+    let size : count ≡ count_in c.args.span c.args.at = size_is c.start_in-start.result c.end_in.result (start_in c.args.span c.args.at) (end_in c.args.span c.args.at) c.start_in-start.ensures c.end_in.ensures in
     size ∙ sym (ap (λ (xs : List ℕ). length xs) (blank_piece c.args.span c.args.at count c.blank-area.result c.blank-area.ensures size c.requires.touched)
     ∙ length-replicate {A = ℕ} (count_in c.args.span c.args.at) 0)
 
 pub fetch-requires : goal.fetch-requires
 fetch-requires g c =
     let count : ℕ = c.end_in.result - c.start_in-start.result in
-    let size : count ≡ count_in c.args.span c.args.at = size_is c.start_in-start.result c.end_in.result _ _ c.start_in-start.ensures c.end_in.ensures in
+    let size : count ≡ count_in c.args.span c.args.at = size_is c.start_in-start.result c.end_in.result (start_in c.args.span c.args.at) (end_in c.args.span c.args.at) c.start_in-start.ensures c.end_in.ensures in
     (search rules, (c.requires.spans, (c.requires.touched, blank_piece c.args.span c.args.at count c.blank-area.result c.blank-area.ensures size c.requires.touched)))
 
 pub returns-in_err-fetch-clause-works : goal.returns-in_err-fetch-clause-works
@@ -72,7 +72,7 @@ pub write-requires : goal.write-requires
 write-requires g c =
     let w : IsWithin c.args.span c.args.at = within c.args.span c.args.at c.requires.touched in
     let count : ℕ = c.end_in.result - c.start_in-start.result in
-    let size : count ≡ count_in c.args.span c.args.at = size_is c.start_in-start.result c.end_in.result _ _ c.start_in-start.ensures c.end_in.ensures in
+    let size : count ≡ count_in c.args.span c.args.at = size_is c.start_in-start.result c.end_in.result (start_in c.args.span c.args.at) (end_in c.args.span c.args.at) c.start_in-start.ensures c.end_in.ensures in
     let out : List ℕ = c.fetch.new.out in
     let front : take count (out ++ drop count c.blank-area.result) ≡ out = front_is count _ out (drop count c.blank-area.result) c.fetch.ensures.size size in
     omega (arith, w.starts, w.some, w.ends, c.start_in-start.ensures, ap (λ (xs : List ℕ). length xs) front, c.fetch.ensures.size)
@@ -82,7 +82,7 @@ returns-clause-works g c =
     let slots : List (Seen WordStep) = map g.R.Region.seen (regions_of c.args.request.now) in
     let w : IsWithin c.args.span c.args.at = within c.args.span c.args.at c.requires.touched in
     let count : ℕ = c.end_in.result - c.start_in-start.result in
-    let size : count ≡ count_in c.args.span c.args.at = size_is c.start_in-start.result c.end_in.result _ _ c.start_in-start.ensures c.end_in.ensures in
+    let size : count ≡ count_in c.args.span c.args.at = size_is c.start_in-start.result c.end_in.result (start_in c.args.span c.args.at) (end_in c.args.span c.args.at) c.start_in-start.ensures c.end_in.ensures in
     let out : List ℕ = c.fetch.new.out in
     let bytes : List ℕ = take count (out ++ drop count c.blank-area.result) in
     let front : bytes ≡ out = front_is count _ out (drop count c.blank-area.result) c.fetch.ensures.size size in
