@@ -1,5 +1,5 @@
 -- Counts of faults of a job's devices.
-use Rattle.std.proofs.Common.{ℕ, ◌≡◌, ◌⊎◌, Option, Some, None, Result, Ok, Err, List, [], ◌∷◌, inl, inr, refl, sym, ap, subst, arith}
+use Rattle.std.proofs.Common.{ℕ, ◌≡◌, ◌⊎◌, Option, Some, None, Result, Ok, Err, List, [], ◌∷◌, ◌++◌, inl, inr, refl, sym, ap, subst, arith}
 use Rattle.cfs_pmem.specs.Faults.{HasCause}
 use Rattle.cfs_slot.specs.Payload.{HaveCause, NoneFell, SomeRose}
 use Rattle.cfs_job.specs.Counts.{HasCauseIn}
@@ -34,40 +34,57 @@ block_called {T} {E} {slots_old} {slots_new} {old} {new} (Err e) same h = record
   passed = tt;
 }
 
--- another block stands beside, in front or behind
+-- ---- other blocks stand beside, behind or in front
 
-pub block_behind : {T E : Type 0} {slots_old slots_new : List ℕ} {old new : ℕ} (result : Result T E) (other : ℕ)
-    → HasCauseIn slots_old slots_new (old ∷ []) (new ∷ []) result → HasCauseIn slots_old slots_new (old ∷ other ∷ []) (new ∷ other ∷ []) result
-block_behind {T} {E} {slots_old} {slots_new} {old} {new} (Ok t) other h = record {
+both_fell : (a a' b b' : List ℕ) → NoneFell a a' → NoneFell b b' → NoneFell (a ++ b) (a' ++ b')
+both_fell [] [] b b' h k = k
+both_fell [] (n ∷ a') b b' h k = absurd h
+both_fell (m ∷ a) [] b b' h k = absurd h
+both_fell (m ∷ a) (n ∷ a') b b' h k = (h.0, both_fell a a' b b' h.1 k)
+
+rose_left : (a a' b b' : List ℕ) → SomeRose a a' → SomeRose (a ++ b) (a' ++ b')
+rose_left [] a' b b' h = absurd h
+rose_left (m ∷ a) [] b b' h = absurd h
+rose_left (m ∷ a) (n ∷ a') b b' h = elim h [ inl up ↦ inl up | inr rest ↦ inr (rose_left a a' b b' rest) ]
+
+rose_right : (a b b' : List ℕ) → SomeRose b b' → SomeRose (a ++ b) (a ++ b')
+rose_right [] b b' h = h
+rose_right (m ∷ a) b b' h = inr (rose_right a b b' h)
+
+pub with_behind : {T E : Type 0} {slots_old slots_new : List ℕ} (old new other : List ℕ) (result : Result T E)
+    → HasCauseIn slots_old slots_new old new result → HasCauseIn slots_old slots_new (old ++ other) (new ++ other) result
+with_behind {T} {E} {slots_old} {slots_new} old new other (Ok t) h = record {
   slots = h.slots;
-  blocks = (h.blocks.0, (omega arith, tt));
+  blocks = both_fell old new other other h.blocks (none_fell other);
   failed = tt;
-  passed = (h.passed.0, cc);
+  passed = (h.passed.0, ap (λ ns. ns ++ other) h.passed.1);
 }
-block_behind {T} {E} {slots_old} {slots_new} {old} {new} (Err e) other h = record {
+with_behind {T} {E} {slots_old} {slots_new} old new other (Err e) h = record {
   slots = h.slots;
-  blocks = (h.blocks.0, (omega arith, tt));
-  failed = elim h.failed [
-    | inl rose ↦ inl rose
-    | inr rose ↦ elim rose [ inl up ↦ inr (inl up) | inr none ↦ absurd none ]
-  ];
+  blocks = both_fell old new other other h.blocks (none_fell other);
+  failed = elim h.failed [ inl rose ↦ inl rose | inr rose ↦ inr (rose_left old new other other rose) ];
   passed = tt;
 }
 
-pub block_before : {T E : Type 0} {slots_old slots_new : List ℕ} {old new : ℕ} (result : Result T E) (other : ℕ)
-    → HasCauseIn slots_old slots_new (old ∷ []) (new ∷ []) result → HasCauseIn slots_old slots_new (other ∷ old ∷ []) (other ∷ new ∷ []) result
-block_before {T} {E} {slots_old} {slots_new} {old} {new} (Ok t) other h = record {
+pub with_before : {T E : Type 0} {slots_old slots_new : List ℕ} (old new other : List ℕ) (result : Result T E)
+    → HasCauseIn slots_old slots_new old new result → HasCauseIn slots_old slots_new (other ++ old) (other ++ new) result
+with_before {T} {E} {slots_old} {slots_new} old new other (Ok t) h = record {
   slots = h.slots;
-  blocks = (omega arith, h.blocks);
+  blocks = both_fell other other old new (none_fell other) h.blocks;
   failed = tt;
-  passed = (h.passed.0, ap (λ ns. other ∷ ns) h.passed.1);
+  passed = (h.passed.0, ap (λ ns. other ++ ns) h.passed.1);
 }
-block_before {T} {E} {slots_old} {slots_new} {old} {new} (Err e) other h = record {
+with_before {T} {E} {slots_old} {slots_new} old new other (Err e) h = record {
   slots = h.slots;
-  blocks = (omega arith, h.blocks);
-  failed = elim h.failed [
-    | inl rose ↦ inl rose
-    | inr rose ↦ inr (inr rose)
-  ];
+  blocks = both_fell other other old new (none_fell other) h.blocks;
+  failed = elim h.failed [ inl rose ↦ inl rose | inr rose ↦ inr (rose_right other old new rose) ];
   passed = tt;
 }
+
+-- no slot was called
+pub blocks_alone : {T E : Type 0} (slots old new : List ℕ) (result : Result T E) → HaveCause old new result → HasCauseIn slots slots old new result
+blocks_alone slots old new (Ok t) h = record { slots = none_fell slots; blocks = h.later; failed = tt; passed = (refl, h.passed) }
+blocks_alone slots old new (Err e) h = record { slots = none_fell slots; blocks = h.later; failed = inr h.failed; passed = tt }
+
+pub nothing_called : {T E : Type 0} (slots blocks : List ℕ) (t : T) → HasCauseIn {T = T} {E = E} slots slots blocks blocks (Ok t)
+nothing_called slots blocks t = record { slots = none_fell slots; blocks = none_fell blocks; failed = tt; passed = (refl, refl) }

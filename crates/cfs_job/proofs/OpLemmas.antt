@@ -17,7 +17,7 @@ use Rattle.cfs_job.specs.Ops.{JobFails, JobOp, WorksOn, get_word, job_asks, job_
 
 -- ---- reads of words leave the block as it is
 
-reads_leave : (reads : List SlotRead) (seen : Seen BlockStep) → after_all job_done (map get_word reads) seen ≡ seen
+pub reads_leave : (reads : List SlotRead) (seen : Seen BlockStep) → after_all job_done (map get_word reads) seen ≡ seen
 reads_leave [] seen = refl
 reads_leave (read ∷ reads) seen = reads_leave reads seen
 

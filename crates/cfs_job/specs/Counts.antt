@@ -3,12 +3,10 @@ use Rattle.std.specs.Prelude.{ℕ, ◌≡◌, ◌⊎◌, Option, Some, None, Lis
 use Rattle.cfs_slot.specs.Payload.{NoneFell, SomeRose}
 use Rattle.cfs_job.specs.declared.tile.Tile.{Tile}
 
--- those of the blocks, where `faults` tells it of each
-abbrev pub faults_in : {B : Type 0} → (B → ℕ) → Option (Tile B) → Option (Tile B) → List ℕ
-faults_in faults None None = []
-faults_in faults (Some first) None = faults first.block ∷ []
-faults_in faults None (Some second) = faults second.block ∷ []
-faults_in faults (Some first) (Some second) = faults first.block ∷ faults second.block ∷ []
+-- that of a block, where `faults` tells it of each
+abbrev pub faults_in : {B : Type 0} → (B → ℕ) → Option (Tile B) → List ℕ
+faults_in faults None = []
+faults_in faults (Some tile) = faults tile.block ∷ []
 
 -- The counts of the slots and those of the blocks tell how a call ended: none fell; one rose where
 -- it failed, and all are as before where it did not.

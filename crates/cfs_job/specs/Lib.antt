@@ -1,4 +1,5 @@
 pub mod Counts
+pub mod Jobs
 pub mod Ops
 pub mod Stands
 pub mod Steps

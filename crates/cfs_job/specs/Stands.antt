@@ -18,6 +18,10 @@ IsSpanOf positions slots = positions ≡ span (request_seen slots) 0
 abbrev pub is_touched : Span → ℕ → Bool
 is_touched positions at = nat_lt at FILE_BLOCKS && meets positions (block_span at)
 
+abbrev pub is_touched_by : Span → Option TileView → Bool
+is_touched_by positions None = false
+is_touched_by positions (Some tile) = is_touched positions tile.at
+
 -- The blocks of a job are such blocks, the first below the second, and there is a second one only
 -- beside a first.
 abbrev pub are_touched : Span → Option TileView → Option TileView → Bool
