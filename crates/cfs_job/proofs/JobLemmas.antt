@@ -7,13 +7,14 @@ use Rattle.cfs_core.proofs.Legal.{both}
 use Rattle.cfs_pmem.specs.declared.trace.Asked.{Asked}
 use Rattle.cfs_pmem.specs.Images.{Seen, WordStep}
 use Rattle.cfs_block.specs.BlockImages.{BlockStep, content_of}
+use Rattle.cfs_job.specs.declared.tile.Tile.{Tile}
 use Rattle.cfs_job.specs.declared.lent.Lent.{Lent}
 use Rattle.cfs_job.specs.Ops.{count_in, place_in}
-use Rattle.cfs_job.specs.Tiles.{tile_of}
+use Rattle.cfs_job.specs.Tiles.{lent_in, tile_in, tile_of}
 use Rattle.cfs_job.proofs.OpLemmas.{ranged_from_same}
 use Rattle.cfs_job.specs.declared.turn.Turn.{Turn}
 use Rattle.cfs_job.specs.declared.turn.Turn.TheVariants as turns
-use Rattle.cfs_job.specs.Stands.{IsOpenFor, IsSound, IsSpanOf, Keeps, TileKeeps, are_touched, is_touched, is_touched_by}
+use Rattle.cfs_job.specs.Stands.{IsDurable, IsOpen, IsOpenFor, IsSound, IsSpanOf, Keeps, ReadsAsNoted, StaysOutside, TileKeeps, are_touched, is_touched, is_touched_by}
 use Rattle.cfs_job.specs.Steps.{Flushes, IsStepOn, MakesTurn, Writes, is_unflushed, is_unwritten, next_turn, one_if, steps_left}
 use Rattle.cfs_job.specs.Views.{JobView, TileView, payload_seen}
 use Rattle.cfs_job.proofs.KeepLemmas.{flush_keeps, write_keeps}
@@ -230,3 +231,52 @@ pub touched_by_second : {slots : List (Seen WordStep)} {place : ℕ} {s : Span} 
     → IsSound slots place s first second → is_unwritten second ≡ true → is_touched_by s second ≡ true
 touched_by_second None h e = absurd (cc)
 touched_by_second {slots} {place} {s} {first} (Some was) h e = touched_second first h
+
+-- ---- what stands between the steps
+
+pub stays_outside : (payload : List ℕ) (s : Span) (tile : Option TileView) → Keeps payload s tile → StaysOutside s tile
+stays_outside payload s None h = tt
+stays_outside payload s (Some tile) h = λ image i. ∣ h.others image i ∣₁
+
+pub reads_noted : (payload : List ℕ) (s : Span) (tile : Option TileView) → Keeps payload s tile → ReadsAsNoted payload s tile
+reads_noted payload s None h = tt
+reads_noted payload s (Some tile) h = record { order = h.order; reads = h.written }
+
+flushed_up : (b : Bool) → one_if (not b) ≡ 0 → b ≡ true
+flushed_up true e = refl
+flushed_up false e = absurd (omega (arith, e))
+
+pub is_durable : (payload : List ℕ) (s : Span) (tile : Option TileView) → one_if (is_unflushed tile) ≡ 0 → Keeps payload s tile → IsDurable payload s tile
+is_durable payload s None e h = tt
+is_durable payload s (Some tile) e h = h.flushed (flushed_up tile.flushed e)
+
+-- each of these has one proof at most
+
+pub outside_prop : (s : Span) (tile : Option TileView) → IsProp (StaysOutside s tile)
+outside_prop s None = hlevel props
+outside_prop s (Some tile) = hlevel props
+
+pub reads_prop : (payload : List ℕ) (s : Span) (tile : Option TileView) → IsProp (ReadsAsNoted payload s tile)
+reads_prop payload s None = hlevel props
+reads_prop payload s (Some tile) = hlevel props
+
+pub durable_prop : (payload : List ℕ) (s : Span) (tile : Option TileView) → IsProp (IsDurable payload s tile)
+durable_prop payload s None = hlevel props
+durable_prop payload s (Some tile) = hlevel props
+
+open_prop : (slots : List (Seen WordStep)) (place : ℕ) → IsProp (IsOpen slots place)
+open_prop [] place = hlevel props
+open_prop (head ∷ tails) place = hlevel props
+
+pub opened_prop : {A : Type 0} (block : Option A) (slots : List (Seen WordStep)) (place : ℕ) → IsProp (IsOpenFor block slots place)
+opened_prop None slots place = hlevel props
+opened_prop (Some block) slots place = open_prop slots place
+
+pub opened_in : {B : Type 0} (seen : B → Seen BlockStep) (number : B → ℕ) (slots : List (Seen WordStep)) (place : ℕ) (tile : Option (Tile B))
+    → IsOpenFor (tile_in seen number tile) slots place → IsOpenFor (lent_in tile) slots place
+opened_in seen number slots place None h = tt
+opened_in seen number slots place (Some tile) h = h
+
+-- none is left
+pub none_unflushed : (a b c d : Bool) → (one_if a + one_if b) + (one_if c + one_if d) ≡ 0 → (one_if c ≡ 0) × (one_if d ≡ 0)
+none_unflushed a b c d e = (omega (arith, e), omega (arith, e))

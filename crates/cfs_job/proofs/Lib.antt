@@ -1,4 +1,5 @@
 pub mod CauseLemmas
+pub mod EntryLemmas
 pub mod JobLemmas
 pub mod KeepLemmas
 pub mod MadeLemmas

@@ -9,7 +9,7 @@ use Rattle.cfs_slot.specs.Regions.{place_of}
 use Rattle.cfs_job.specs.declared.lent.Lent.{Lent}
 use Rattle.cfs_job.specs.declared.job.Job.{Job}
 use Rattle.cfs_job.specs.Counts.{faults_in}
-use Rattle.cfs_job.specs.Tiles.{tile_in, tile_of}
+use Rattle.cfs_job.specs.Tiles.{lent_in, tile_in, tile_of}
 use Rattle.cfs_job.specs.Views.{JobView}
 
 -- where `words`, `bytes` and `number` tell what regions and blocks are
@@ -42,3 +42,14 @@ view_of_parts words bytes number ino request span first second = record {
   first = tile_of bytes number first;
   second = tile_of bytes number second;
 }
+
+-- What a job is made of: its request, and its blocks with their numbers in the file.
+
+abbrev pub request_in : {R B : Type 0} {g h : _} → Job R B g h → Live R g
+request_in job = job.request
+
+abbrev pub first_in : {R B : Type 0} {g h : _} → Job R B g h → Option (Lent B)
+first_in job = lent_in job.first
+
+abbrev pub second_in : {R B : Type 0} {g h : _} → Job R B g h → Option (Lent B)
+second_in job = lent_in job.second

@@ -71,3 +71,24 @@ pub record IsSound (slots : List (Seen WordStep)) (place : ℕ) (positions : Spa
   pub opened : IsOpenFor first slots place
   pub of_first : Keeps (payload_seen slots) positions first
   pub of_second : Keeps (payload_seen slots) positions second
+
+-- Each image of a block is one from when the job came by it, but for the request's own positions.
+abbrev pub StaysOutside : Span → Option TileView → Type 0
+StaysOutside positions None = Unit {0}
+StaysOutside positions (Some tile) =
+    AllBlockImages tile.seen (λ image. ∥ IsRangedFrom tile.taken (place_in positions tile.at)
+    (count_in positions tile.at) image ∥₁)
+
+-- each image of a block has the request's bytes at its positions
+abbrev pub IsDurable : List ℕ → Span → Option TileView → Type 0
+IsDurable payload positions None = Unit {0}
+IsDurable payload positions (Some tile) = AllBlockImages tile.seen (HasPiece payload positions tile.at)
+
+-- Where a block was written its bytes read so, and only what was written was flushed.
+pub record ReadsSo (payload : List ℕ) (positions : Span) (tile : TileView) : Type 0 where
+  pub order : tile.flushed ≡ true → tile.written ≡ true
+  pub reads : tile.written ≡ true → HasPiece payload positions tile.at (content_of tile.seen)
+
+abbrev pub ReadsAsNoted : List ℕ → Span → Option TileView → Type 0
+ReadsAsNoted payload positions None = Unit {0}
+ReadsAsNoted payload positions (Some tile) = ReadsSo payload positions tile

@@ -34,3 +34,8 @@ tile_of seen number (Some lent) = Some (record {
   written = false;
   flushed = false;
 })
+
+-- the block as it is, with its number in the file
+abbrev pub lent_in : {B : Type 0} → Option (Tile B) → Option (Lent B)
+lent_in None = None
+lent_in (Some tile) = Some (record { at = tile.at; block = tile.block })

@@ -2,13 +2,14 @@
 ghost use Rattle.std.specs.Prelude.{◌≡◌, ◌≤◌, ◌-◌, true, false, [], Some, map, OnOk, OnErr};
 ghost use Rattle.cfs_slot.specs.Reads.{regions_of};
 ghost use Rattle.cfs_slot.specs.Regions.{place_of};
-ghost use Rattle.cfs_job.specs.Stands.{IsSound, IsSpanOf, IsOpenFor, are_touched};
+ghost use Rattle.cfs_job.specs.Stands.{IsDurable, IsOpenFor, IsSound, IsSpanOf, ReadsAsNoted, StaysOutside, are_touched};
 ghost use Rattle.cfs_job.specs.Steps.{one_if};
+ghost use Rattle.cfs_job.specs.Views.{payload_seen};
 ghost use Rattle.cfs_job.specs.Tiles.{tile_in, tile_of};
 
 use crate::lent::Lent;
 use crate::tile::Tile;
-use crate::tiles::{flush_in, is_unflushed, is_unwritten, taken, write_in};
+use crate::tiles::{flush_in, given, is_unflushed, is_unwritten, taken, write_in};
 use crate::turn::Turn;
 use cfs_block::Block;
 use cfs_file::Span;
@@ -37,7 +38,7 @@ fn one_if(test: bool) -> u32
 
 impl<R: Region + Drop, B: Block + Drop> Job<R, B> {
     ghost use Rattle.cfs_job.specs.Counts.{HasCauseIn};
-    ghost use Rattle.cfs_job.specs.Jobs.{block_faults, job_view, slot_faults, view_of_parts};
+    ghost use Rattle.cfs_job.specs.Jobs.{block_faults, first_in, job_view, request_in, second_in, slot_faults, view_of_parts};
     ghost use Rattle.cfs_job.specs.Steps.{MakesTurn, next_turn, steps_left};
 
     /// A job of a request of the file with this inode number, whose positions are the span. Its
@@ -133,4 +134,50 @@ impl<R: Region + Drop, B: Block + Drop> Job<R, B> {
             Turn::Nothing => Ok(()),
         }
     }
+
+    /// The request and the blocks, as they are, whatever was done to them.
+    pub fn into_parts(self) -> (Live<R>, Option<Lent<B>>, Option<Lent<B>>)
+        ensures request { result.0 ≡ request_in self }
+        ensures first { result.1 ≡ first_in self }
+        ensures second { result.2 ≡ second_in self }
+    {
+        let Job {
+            request,
+            first,
+            second,
+            ..
+        } = self;
+        (request, given(first), given(second))
+    }
+
+    /// What holds of a job before its first step, between two steps and behind its last one,
+    /// whichever of them failed. It does nothing.
+    pub fn stands(&self)
+        // A job that has a block has its gate open whatever a crash leaves.
+        ensures opened { IsOpenFor (first_in self.now) (job_view R.seen B.seen B.number self.now).slots
+            (job_view R.seen B.seen B.number self.now).place }
+        // Its blocks differ from what they were only at the request's own positions.
+        ensures outside_first { StaysOutside (job_view R.seen B.seen B.number self.now).span
+            (job_view R.seen B.seen B.number self.now).first }
+        ensures outside_second { StaysOutside (job_view R.seen B.seen B.number self.now).span
+            (job_view R.seen B.seen B.number self.now).second }
+        // What was written reads as the request's bytes.
+        ensures reads_first { ReadsAsNoted
+            (payload_seen (job_view R.seen B.seen B.number self.now).slots)
+            (job_view R.seen B.seen B.number self.now).span
+            (job_view R.seen B.seen B.number self.now).first }
+        ensures reads_second { ReadsAsNoted
+            (payload_seen (job_view R.seen B.seen B.number self.now).slots)
+            (job_view R.seen B.seen B.number self.now).span
+            (job_view R.seen B.seen B.number self.now).second }
+        // When no step is left these positions hold the request's bytes whatever a crash leaves.
+        ensures durable_first { steps_left (job_view R.seen B.seen B.number self.now) ≡ 0 →
+            IsDurable (payload_seen (job_view R.seen B.seen B.number self.now).slots)
+            (job_view R.seen B.seen B.number self.now).span
+            (job_view R.seen B.seen B.number self.now).first }
+        ensures durable_second { steps_left (job_view R.seen B.seen B.number self.now) ≡ 0 →
+            IsDurable (payload_seen (job_view R.seen B.seen B.number self.now).slots)
+            (job_view R.seen B.seen B.number self.now).span
+            (job_view R.seen B.seen B.number self.now).second }
+    {}
 }

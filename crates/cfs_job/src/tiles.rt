@@ -4,6 +4,7 @@ ghost use Rattle.cfs_slot.specs.Payload.{HaveCause};
 ghost use Rattle.cfs_slot.specs.Reads.{regions_of};
 ghost use Rattle.cfs_slot.specs.Regions.{place_of};
 ghost use Rattle.cfs_job.specs.Counts.{HasCauseIn, faults_in};
+ghost use Rattle.cfs_job.specs.Tiles.{lent_in};
 ghost use Rattle.cfs_job.specs.Stands.{IsSpanOf, is_touched_by};
 ghost use Rattle.cfs_job.specs.Steps.{Flushes, IsStepOn, Writes, is_unflushed, is_unwritten};
 ghost use Rattle.cfs_job.specs.Tiles.{tile_in, tile_of};
@@ -21,6 +22,16 @@ pub(crate) fn taken<B: Block>(lent: Option<Lent<B>>) -> Option<Tile<B>>
 {
     match lent {
         Some(lent) => Some(Tile::new(lent)),
+        None => None,
+    }
+}
+
+/// The block of a job, as it is.
+pub(crate) fn given<B: Block>(tile: Option<Tile<B>>) -> Option<Lent<B>>
+    ensures { result ≡ lent_in tile }
+{
+    match tile {
+        Some(tile) => Some(tile.into_lent()),
         None => None,
     }
 }

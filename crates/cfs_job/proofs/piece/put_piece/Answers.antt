@@ -61,7 +61,7 @@ returns-in_err-fetch-clause-works g c =
     (put_bytes (place_in c.args.span c.args.at) (piece_in (payload_seen (map g.R.Region.seen (regions_of c.args.request.now))) c.args.span c.args.at))
     old p.0 p.1 c.in_err-fetch.ensures.some (ranged_from_same old (place_in c.args.span c.args.at) (count_in c.args.span c.args.at))
     c.in_err-fetch.ensures.asks
-    (λ o. reads_retold c.in_err-fetch.field-0.0 p.0 p.1 (c.in_err-fetch.ensures.does o))
+    (λ o. reads_retold {reads = piece_reads (devices_seen (map g.R.Region.seen (regions_of c.args.request.now))) c.args.span c.args.at} c.in_err-fetch.field-0.0 p.0 p.1 (c.in_err-fetch.ensures.does o))
 
 pub returns-in_err-fetch-clause-cause : goal.returns-in_err-fetch-clause-cause
 returns-in_err-fetch-clause-cause g c =
