@@ -8,6 +8,7 @@ ghost use Rattle.cfs_job.specs.Views.{payload_seen};
 ghost use Rattle.cfs_job.specs.Tiles.{tile_in, tile_of};
 
 use crate::lent::Lent;
+use crate::piece::is_touched;
 use crate::tile::Tile;
 use crate::tiles::{flush_in, given, is_unflushed, is_unwritten, taken, write_in};
 use crate::turn::Turn;
@@ -40,6 +41,22 @@ impl<R: Region + Drop, B: Block + Drop> Job<R, B> {
     ghost use Rattle.cfs_job.specs.Counts.{HasCauseIn};
     ghost use Rattle.cfs_job.specs.Jobs.{block_faults, first_in, job_view, request_in, second_in, slot_faults, view_of_parts};
     ghost use Rattle.cfs_job.specs.Steps.{MakesTurn, next_turn, steps_left};
+
+    /// Whether a job of a request with these positions can have these blocks: the span touches
+    /// them, and the first is below the second.
+    pub fn fits(span: Span, first: &Option<Lent<B>>, second: &Option<Lent<B>>) -> bool
+        ensures { result ≡ are_touched span (tile_of B.seen B.number first.now)
+            (tile_of B.seen B.number second.now) }
+    {
+        match (first, second) {
+            (None, None) => true,
+            (None, Some(_)) => false,
+            (Some(first), None) => is_touched(span, first.at),
+            (Some(first), Some(second)) => {
+                is_touched(span, first.at) && is_touched(span, second.at) && first.at < second.at
+            }
+        }
+    }
 
     /// A job of a request of the file with this inode number, whose positions are the span. Its
     /// blocks are some of those that the span touches, the first below the second. Where it has

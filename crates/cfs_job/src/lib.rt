@@ -11,3 +11,6 @@ mod turn;
 pub use job::Job;
 pub use lent::Lent;
 pub use turn::Turn;
+
+#[cfg(test)]
+mod tests;

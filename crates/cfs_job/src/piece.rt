@@ -14,7 +14,7 @@ ghost use Rattle.cfs_job.specs.Stands.{IsSpanOf, is_touched};
 ghost use Rattle.cfs_job.specs.Views.{payload_seen};
 
 use cfs_block::Block;
-use cfs_file::{BLOCK_LEN, Span};
+use cfs_file::{BLOCK_LEN, FILE_BLOCKS, Span, overlaps};
 use cfs_pmem::{DeviceFault, Power, Region};
 use cfs_slot::Live;
 
@@ -42,6 +42,18 @@ fn end_in(span: Span, at: u64) -> u64
         Span::Range { to, .. } => to.min(BLOCK_LEN * at + BLOCK_LEN),
         Span::From { .. } => BLOCK_LEN * at + BLOCK_LEN,
     }
+}
+
+/// Whether a block of a file has one of the positions.
+pub(crate) fn is_touched(span: Span, at: u64) -> bool
+    ensures { result ≡ is_touched span at }
+{
+    if FILE_BLOCKS <= at {
+        return false;
+    }
+    let from = BLOCK_LEN * at;
+    let to = from + BLOCK_LEN;
+    overlaps(&span, &Span::Range { from, to })
 }
 
 /// The bytes of a block, all zero.
