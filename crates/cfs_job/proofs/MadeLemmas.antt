@@ -57,8 +57,8 @@ write_first {T} {E} {obeys_slots} {obeys_block} {keeps} {result} {asked_old} {as
     let after : ∥ IsSound old.slots old.place old.span (Some now) old.second ∥₁ =
     ∥∥₁_map known (λ k. sound_write_first was now result fit h.step k) in
     let counted : IsCounted result
-      ((one_if (not was.written) + one_if (is_unwritten old.second)) + (one_if (not was.flushed) + one_if (is_unflushed old.second)))
-      ((one_if (not now.written) + one_if (is_unwritten old.second)) + (one_if (not now.flushed) + one_if (is_unflushed old.second))) =
+    ((one_if (not was.written) + one_if (is_unwritten old.second)) + (one_if (not was.flushed) + one_if (is_unflushed old.second)))
+    ((one_if (not now.written) + one_if (is_unwritten old.second)) + (one_if (not now.flushed) + one_if (is_unflushed old.second))) =
     count_written result was.written was.flushed now.written now.flushed (one_if (is_unwritten old.second)) (one_if (is_unflushed old.second))
     unwritten unflushed (ap (λ (t : TileView). t.written) h.step.noted) (ap (λ (t : TileView). t.flushed) h.step.noted) in
     record {
@@ -97,8 +97,8 @@ write_second {T} {E} {obeys_slots} {obeys_block} {keeps} {result} {asked_old} {a
     let after : ∥ IsSound old.slots old.place old.span old.first (Some now) ∥₁ =
     ∥∥₁_map known (λ k. sound_write_second was now result fit h.step k) in
     let counted : IsCounted result
-      ((one_if (is_unwritten old.first) + one_if (not was.written)) + (one_if (is_unflushed old.first) + one_if (not was.flushed)))
-      ((one_if (is_unwritten old.first) + one_if (not now.written)) + (one_if (is_unflushed old.first) + one_if (not now.flushed))) =
+    ((one_if (is_unwritten old.first) + one_if (not was.written)) + (one_if (is_unflushed old.first) + one_if (not was.flushed)))
+    ((one_if (is_unwritten old.first) + one_if (not now.written)) + (one_if (is_unflushed old.first) + one_if (not now.flushed))) =
     swapped (one_if (not was.written)) (one_if (is_unwritten old.first)) (one_if (not was.flushed)) (one_if (is_unflushed old.first)) (one_if (not now.written)) (one_if (not now.flushed))
     (count_written result was.written was.flushed now.written now.flushed (one_if (is_unwritten old.first)) (one_if (is_unflushed old.first))
     unwritten unflushed (ap (λ (t : TileView). t.written) h.step.noted) (ap (λ (t : TileView). t.flushed) h.step.noted)) in
@@ -138,8 +138,8 @@ flush_first {T} {E} {obeys_slots} {obeys_block} {keeps} {result} {asked_old} {as
     ∥∥₁_map known (λ k. sound_flush_first was now result written h.step k) in
     let kept : now.written ≡ was.written = ap (λ (t : TileView). t.written) h.step.noted in
     let flushed : IsCounted result
-      ((one_if (not was.written) + one_if (is_unwritten old.second)) + (one_if (not was.flushed) + one_if (is_unflushed old.second)))
-      ((one_if (not was.written) + one_if (is_unwritten old.second)) + (one_if (not now.flushed) + one_if (is_unflushed old.second))) =
+    ((one_if (not was.written) + one_if (is_unwritten old.second)) + (one_if (not was.flushed) + one_if (is_unflushed old.second)))
+    ((one_if (not was.written) + one_if (is_unwritten old.second)) + (one_if (not now.flushed) + one_if (is_unflushed old.second))) =
     count_flushed result was.flushed now.flushed (one_if (not was.written) + one_if (is_unwritten old.second)) (one_if (is_unflushed old.second))
     unflushed (ap (λ (t : TileView). t.flushed) h.step.noted) in
     let counted : IsCounted result (left_of (Some was) old.second) (left_of (Some now) old.second) =
@@ -176,8 +176,8 @@ flush_second {T} {E} {obeys_slots} {obeys_block} {keeps} {result} {asked_old} {a
     ∥∥₁_map known (λ k. sound_flush_second was now result written h.step k) in
     let kept : now.written ≡ was.written = ap (λ (t : TileView). t.written) h.step.noted in
     let flushed : IsCounted result
-      ((one_if (is_unwritten old.first) + one_if (not was.written)) + (one_if (is_unflushed old.first) + one_if (not was.flushed)))
-      ((one_if (is_unwritten old.first) + one_if (not was.written)) + (one_if (is_unflushed old.first) + one_if (not now.flushed))) =
+    ((one_if (is_unwritten old.first) + one_if (not was.written)) + (one_if (is_unflushed old.first) + one_if (not was.flushed)))
+    ((one_if (is_unwritten old.first) + one_if (not was.written)) + (one_if (is_unflushed old.first) + one_if (not now.flushed))) =
     swapped (one_if (not was.written)) (one_if (is_unwritten old.first)) (one_if (not was.flushed)) (one_if (is_unflushed old.first)) (one_if (not was.written)) (one_if (not now.flushed))
     (count_flushed result was.flushed now.flushed (one_if (not was.written) + one_if (is_unwritten old.first)) (one_if (is_unflushed old.first))
     unflushed (ap (λ (t : TileView). t.flushed) h.step.noted)) in

@@ -140,12 +140,8 @@ impl<R: Region + Drop, B: Block + Drop> Job<R, B> {
             (block_faults B.faults self.old) (block_faults B.faults self.new) result }
     {
         match self.next() {
-            Turn::WriteFirst => {
-                write_in(&mut self.first, &mut self.request, power, self.span)
-            }
-            Turn::WriteSecond => {
-                write_in(&mut self.second, &mut self.request, power, self.span)
-            }
+            Turn::WriteFirst => { write_in(&mut self.first, &mut self.request, power, self.span) }
+            Turn::WriteSecond => { write_in(&mut self.second, &mut self.request, power, self.span) }
             Turn::FlushFirst => flush_in(&mut self.first, power),
             Turn::FlushSecond => flush_in(&mut self.second, power),
             Turn::Nothing => Ok(()),

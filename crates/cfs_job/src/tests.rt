@@ -206,7 +206,10 @@ fn a_job_writes_its_part_of_each_block(rt: HostRuntime) -> Result<(), Fail> {
             0,
             Some(1),
             4,
-            ([99, 4095, 99, 100], [Some(9), Some(230), Some(79), Some(80)]),
+            (
+                [99, 4095, 99, 100],
+                [Some(9), Some(230), Some(79), Some(80)],
+            ),
         ),
         // The second and the third part of a longer one.
         (
@@ -214,7 +217,10 @@ fn a_job_writes_its_part_of_each_block(rt: HostRuntime) -> Result<(), Fail> {
             1,
             Some(2),
             4,
-            ([0, 4095, 907, 908], [Some(231), Some(59), Some(214), Some(9)]),
+            (
+                [0, 4095, 907, 908],
+                [Some(231), Some(59), Some(214), Some(9)],
+            ),
         ),
         // All behind a length.
         (

@@ -55,7 +55,7 @@ returns-in-Range-clause-does g c =
     let size : length c.args.out.now ≡ count_in c.args.span c.args.at = ap (λ (xs : List ℕ). length xs) c.requires.zeros ∙ length-replicate {A = ℕ} (count_in c.args.span c.args.at) 0 in
     let start : c.start_in.result ≡ start_in c.args.span c.args.at = c.start_in.ensures ∙ ap (λ s. start_in s c.args.at) (sym c.in-Range.is) in
     let is : payload_reads (devices_in g.R.Region.seen (regions_of c.args.request.now)) (c.start_in.result - c.in-Range.from) (length c.args.out.now)
-      ≡ piece_reads (devices_seen slots) c.args.span c.args.at =
+    ≡ piece_reads (devices_seen slots) c.args.span c.args.at =
     ap (λ ds. payload_reads ds (c.start_in.result - c.in-Range.from) (length c.args.out.now)) (devices_same g.R.Region.seen (regions_of c.args.request.now))
     ∙ ap (λ n. payload_reads (devices_seen slots) (n - c.in-Range.from) (length c.args.out.now)) start
     ∙ ap (λ n. payload_reads (devices_seen slots) (start_in c.args.span c.args.at - c.in-Range.from) n) size
@@ -75,16 +75,16 @@ returns-in-Nothing g c =
     let slots : List (Seen WordStep) = map g.R.Region.seen (regions_of c.args.request.now) in
     let asked : List Asked = g.P.Power.asked c.args.power.now in
     elim c.in-Nothing.is [
-  | inl none ↦ absurd (not_nothing c.args.span c.args.at none c.requires.touched)
-  | inr cut ↦
-      record {
-        bytes = c.requires.zeros ∙ zeros_are c.args.span c.args.at cut.0 (payload_seen slots) cut.1;
-        size = ap (λ (xs : List ℕ). length xs) c.requires.zeros ∙ length-replicate {A = ℕ} (count_in c.args.span c.args.at) 0;
-        seen = refl;
-        place = refl;
-        does = λ o. subst (λ rs. DoesReads {T = Unit {0}} {E = DeviceFault} rs (Ok tt) asked asked) (sym (no_reads (devices_seen slots) c.args.span c.args.at cut.0 cut.1)) (record { all = refl; front = tt });
-        some = tt;
-        asks = nothing_asked (flat_map devices_of slots) asked;
-        cause = nothing_failed (map g.R.Region.faults (regions_of c.args.request.now)) tt;
-      }
-]
+      | inl none ↦ absurd (not_nothing c.args.span c.args.at none c.requires.touched)
+      | inr cut ↦
+          record {
+            bytes = c.requires.zeros ∙ zeros_are c.args.span c.args.at cut.0 (payload_seen slots) cut.1;
+            size = ap (λ (xs : List ℕ). length xs) c.requires.zeros ∙ length-replicate {A = ℕ} (count_in c.args.span c.args.at) 0;
+            seen = refl;
+            place = refl;
+            does = λ o. subst (λ rs. DoesReads {T = Unit {0}} {E = DeviceFault} rs (Ok tt) asked asked) (sym (no_reads (devices_seen slots) c.args.span c.args.at cut.0 cut.1)) (record { all = refl; front = tt });
+            some = tt;
+            asks = nothing_asked (flat_map devices_of slots) asked;
+            cause = nothing_failed (map g.R.Region.faults (regions_of c.args.request.now)) tt;
+          }
+    ]

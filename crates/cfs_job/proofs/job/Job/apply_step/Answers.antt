@@ -30,9 +30,11 @@ write_in-requires g c =
 pub invariant_of-self : goal.invariant_of-self
 invariant_of-self g c =
     let old = job_view g.R.Region.seen g.B.Block.seen g.B.Block.number c.args.self.now in
-    record { sound = (made.write_first old (place_of c.write_in.new.request) (map g.R.Region.seen (regions_of c.write_in.new.request))
-    (tile_in g.B.Block.seen g.B.Block.number c.write_in.new.tile) (sym c.in-WriteFirst.is ∙ c.next.ensures) c.args.self.now.sound c.write_in.ensures.place c.write_in.ensures.seen
-    (λ was is. full_in g.B.Block.seen g.B.Block.number g.met.B.Block.full c.args.self.now.first was is) c.write_in.ensures.writes).sound }
+    record {
+      sound = (made.write_first old (place_of c.write_in.new.request) (map g.R.Region.seen (regions_of c.write_in.new.request))
+          (tile_in g.B.Block.seen g.B.Block.number c.write_in.new.tile) (sym c.in-WriteFirst.is ∙ c.next.ensures) c.args.self.now.sound c.write_in.ensures.place c.write_in.ensures.seen
+          (λ was is. full_in g.B.Block.seen g.B.Block.number g.met.B.Block.full c.args.self.now.first was is) c.write_in.ensures.writes).sound;
+    }
 
 pub returns-in-WriteFirst-clause-makes : goal.returns-in-WriteFirst-clause-makes
 returns-in-WriteFirst-clause-makes g c =
@@ -72,9 +74,11 @@ write_in-requires-in-WriteSecond g c =
 pub invariant_of-self-in-WriteSecond : goal.invariant_of-self-in-WriteSecond
 invariant_of-self-in-WriteSecond g c =
     let old = job_view g.R.Region.seen g.B.Block.seen g.B.Block.number c.args.self.now in
-    record { sound = (made.write_second old (place_of c.write_in-in-WriteSecond.new.request) (map g.R.Region.seen (regions_of c.write_in-in-WriteSecond.new.request))
-    (tile_in g.B.Block.seen g.B.Block.number c.write_in-in-WriteSecond.new.tile) (sym c.in-WriteSecond.is ∙ c.next.ensures) c.args.self.now.sound c.write_in-in-WriteSecond.ensures.place c.write_in-in-WriteSecond.ensures.seen
-    (λ was is. full_in g.B.Block.seen g.B.Block.number g.met.B.Block.full c.args.self.now.second was is) c.write_in-in-WriteSecond.ensures.writes).sound }
+    record {
+      sound = (made.write_second old (place_of c.write_in-in-WriteSecond.new.request) (map g.R.Region.seen (regions_of c.write_in-in-WriteSecond.new.request))
+          (tile_in g.B.Block.seen g.B.Block.number c.write_in-in-WriteSecond.new.tile) (sym c.in-WriteSecond.is ∙ c.next.ensures) c.args.self.now.sound c.write_in-in-WriteSecond.ensures.place c.write_in-in-WriteSecond.ensures.seen
+          (λ was is. full_in g.B.Block.seen g.B.Block.number g.met.B.Block.full c.args.self.now.second was is) c.write_in-in-WriteSecond.ensures.writes).sound;
+    }
 
 pub returns-in-WriteSecond-clause-makes : goal.returns-in-WriteSecond-clause-makes
 returns-in-WriteSecond-clause-makes g c =
@@ -110,8 +114,10 @@ flush_in-requires g c =
 pub invariant_of-self-in-FlushFirst : goal.invariant_of-self-in-FlushFirst
 invariant_of-self-in-FlushFirst g c =
     let old = job_view g.R.Region.seen g.B.Block.seen g.B.Block.number c.args.self.now in
-    record { sound = (made.flush_first {obeys_slots = g.R.Region.obeys_power} old (tile_in g.B.Block.seen g.B.Block.number c.flush_in.new.tile) (sym c.in-FlushFirst.is ∙ c.next.ensures)
-    c.args.self.now.sound c.flush_in.ensures.flushes).sound }
+    record {
+      sound = (made.flush_first {obeys_slots = g.R.Region.obeys_power} old (tile_in g.B.Block.seen g.B.Block.number c.flush_in.new.tile) (sym c.in-FlushFirst.is ∙ c.next.ensures)
+          c.args.self.now.sound c.flush_in.ensures.flushes).sound;
+    }
 
 pub returns-in-FlushFirst-clause-makes : goal.returns-in-FlushFirst-clause-makes
 returns-in-FlushFirst-clause-makes g c =
@@ -144,8 +150,10 @@ flush_in-requires-in-FlushSecond g c =
 pub invariant_of-self-in-FlushSecond : goal.invariant_of-self-in-FlushSecond
 invariant_of-self-in-FlushSecond g c =
     let old = job_view g.R.Region.seen g.B.Block.seen g.B.Block.number c.args.self.now in
-    record { sound = (made.flush_second {obeys_slots = g.R.Region.obeys_power} old (tile_in g.B.Block.seen g.B.Block.number c.flush_in-in-FlushSecond.new.tile) (sym c.in-FlushSecond.is ∙ c.next.ensures)
-    c.args.self.now.sound c.flush_in-in-FlushSecond.ensures.flushes).sound }
+    record {
+      sound = (made.flush_second {obeys_slots = g.R.Region.obeys_power} old (tile_in g.B.Block.seen g.B.Block.number c.flush_in-in-FlushSecond.new.tile) (sym c.in-FlushSecond.is ∙ c.next.ensures)
+          c.args.self.now.sound c.flush_in-in-FlushSecond.ensures.flushes).sound;
+    }
 
 pub returns-in-FlushSecond-clause-makes : goal.returns-in-FlushSecond-clause-makes
 returns-in-FlushSecond-clause-makes g c =
