@@ -3,6 +3,7 @@ pub mod EntryLemmas
 pub mod JobLemmas
 pub mod KeepLemmas
 pub mod MadeLemmas
+pub mod NoteLemmas
 pub mod OpLemmas
 pub mod PieceLemmas
 pub mod SpanLemmas

@@ -1,17 +1,20 @@
 -- One step of a job, by its turn.
-use Rattle.std.proofs.Common.{ℕ, ◌+◌, ◌-◌, ◌≡◌, ◌∙◌, Bool, true, false, not, Option, Some, None, Result, Ok, Err, OnOk, OnErr, List, length, is_ok, refl, sym, ap, subst, arith}
+use Rattle.std.proofs.Common.{ℕ, ◌+◌, ◌-◌, ◌≡◌, ◌∙◌, Bool, true, false, not, Option, Some, None, Result, Ok, Err, OnOk, OnErr, List, length, if◌then◌else◌, is_ok, refl, sym, ap, subst, arith}
 use Rattle.std.proofs.Props.{props}
 use Rattle.std.proofs.Math.Logic.{∥∥₁_elim, ∥∥₁_map}
 use Rattle.cfs_file.specs.declared.span.Span.{Span}
 use Rattle.cfs_pmem.specs.declared.trace.Asked.{Asked}
 use Rattle.cfs_pmem.specs.Images.{Seen, WordStep}
 use Rattle.cfs_block.specs.BlockImages.{BlockStep, content_of}
+use Rattle.cfs_core.specs.declared.state.Job.{Job}
+use Rattle.cfs_core.specs.Jobs.{job_flushed, job_written}
 use Rattle.cfs_job.specs.declared.tile.Tile.{Tile}
 use Rattle.cfs_job.specs.declared.turn.Turn.TheVariants as turns
-use Rattle.cfs_job.specs.Stands.{IsSound, TileKeeps}
-use Rattle.cfs_job.specs.Steps.{Flushes, IsStepOn, MakesTurn, Writes, is_unflushed, is_unwritten, next_turn, one_if, steps_left}
+use Rattle.cfs_job.specs.Stands.{IsSound, TileKeeps, are_touched}
+use Rattle.cfs_job.specs.Steps.{Flushes, IsStepOn, MakesTurn, Writes, at_of, core_job, is_unflushed, is_unwritten, lease_in, next_turn, noted, one_if, steps_left}
 use Rattle.cfs_job.specs.Tiles.{tile_in, tile_view}
 use Rattle.cfs_job.specs.Views.{JobView, TileView, payload_seen}
+use Rattle.cfs_job.proofs.NoteLemmas.{flush_notes_first, flush_notes_second, not_at_first, not_at_second, write_notes_first, write_notes_second}
 use Rattle.cfs_job.proofs.JobLemmas.{IsCounted, count_flushed, count_written, sound_flush_first, sound_flush_second, sound_write_first, sound_write_second, swapped, turn_flush_first, turn_flush_second, turn_write_first, turn_write_second, unflushed_is, unwritten_is, written_is}
 
 -- all that is said of a step
@@ -19,6 +22,7 @@ pub record Made {T E : Type 0} (obeys_slots obeys_block keeps : Bool) (result : 
     (asked_new : List Asked) (new : JobView) : Type 0 where
   pub makes : MakesTurn obeys_slots obeys_block keeps (next_turn old) result asked_old old asked_new new
   pub counted : IsCounted result (steps_left old) (steps_left new)
+  pub notes : core_job new ≡ noted (next_turn old) (is_ok result) old
   pub sound : ∥ IsSound new.slots new.place new.span new.first new.second ∥₁
 
 -- a block has 4096 bytes
@@ -36,6 +40,9 @@ not_flushed was h e = go was.flushed refl
     go : (f : Bool) → was.flushed ≡ f → f ≡ false
     go true is = let up : was.written ≡ true = h.order is in cc
     go false is = refl
+
+abbrev job_of : Option TileView → Option TileView → Job
+job_of first second = record { first = lease_in first; second = lease_in second }
 
 abbrev left_of : Option TileView → Option TileView → ℕ
 left_of first second = (one_if (is_unwritten first) + one_if (is_unwritten second)) + (one_if (is_unflushed first) + one_if (is_unflushed second))
@@ -61,6 +68,7 @@ write_first {T} {E} {obeys_slots} {obeys_block} {keeps} {result} {asked_old} {as
     ((one_if (not now.written) + one_if (is_unwritten old.second)) + (one_if (not now.flushed) + one_if (is_unflushed old.second))) =
     count_written result was.written was.flushed now.written now.flushed (one_if (is_unwritten old.second)) (one_if (is_unflushed old.second))
     unwritten unflushed (ap (λ (t : TileView). t.written) h.step.noted) (ap (λ (t : TileView). t.flushed) h.step.noted) in
+    let touched : are_touched old.span (Some was) old.second ≡ true = ∥∥₁_elim known (hlevel props) (λ k. k.touched) in
     record {
       makes = subst (λ t. MakesTurn obeys_slots obeys_block keeps t result asked_old old asked_new
           (record { ino = old.ino; place = place; span = old.span; slots = slots; first = first; second = old.second })) turn
@@ -75,6 +83,10 @@ write_first {T} {E} {obeys_slots} {obeys_block} {keeps} {result} {asked_old} {as
           };
       counted = subst (λ f. IsCounted result (left_of f old.second) (left_of first old.second)) (sym h.here)
           (subst (λ f. IsCounted result (left_of (Some was) old.second) (left_of f old.second)) (sym h.is) counted);
+      notes = subst (λ t. job_of first old.second ≡ noted t (is_ok result) old) turn
+          (ap (λ f. job_of f old.second) h.is ∙ ap (λ (t : TileView). job_of (Some t) old.second) h.step.noted
+          ∙ write_notes_first was.at was.written was.flushed (is_ok result) (lease_in old.second) (not_at_second old.span was old.second touched)
+          ∙ ap (λ f. job_written (at_of f) (is_ok result) (job_of f old.second)) (sym h.here));
       sound = subst (λ p. ∥ IsSound slots p old.span first old.second ∥₁) (sym at)
           (subst (λ ss. ∥ IsSound ss old.place old.span first old.second ∥₁) (sym same)
           (subst (λ f. ∥ IsSound old.slots old.place old.span f old.second ∥₁) (sym h.is) after));
@@ -102,6 +114,7 @@ write_second {T} {E} {obeys_slots} {obeys_block} {keeps} {result} {asked_old} {a
     swapped (one_if (not was.written)) (one_if (is_unwritten old.first)) (one_if (not was.flushed)) (one_if (is_unflushed old.first)) (one_if (not now.written)) (one_if (not now.flushed))
     (count_written result was.written was.flushed now.written now.flushed (one_if (is_unwritten old.first)) (one_if (is_unflushed old.first))
     unwritten unflushed (ap (λ (t : TileView). t.written) h.step.noted) (ap (λ (t : TileView). t.flushed) h.step.noted)) in
+    let touched : are_touched old.span old.first (Some was) ≡ true = ∥∥₁_elim known (hlevel props) (λ k. k.touched) in
     record {
       makes = subst (λ t. MakesTurn obeys_slots obeys_block keeps t result asked_old old asked_new
           (record { ino = old.ino; place = place; span = old.span; slots = slots; first = old.first; second = second })) turn
@@ -116,6 +129,10 @@ write_second {T} {E} {obeys_slots} {obeys_block} {keeps} {result} {asked_old} {a
           };
       counted = subst (λ f. IsCounted result (left_of old.first f) (left_of old.first second)) (sym h.here)
           (subst (λ f. IsCounted result (left_of old.first (Some was)) (left_of old.first f)) (sym h.is) counted);
+      notes = subst (λ t. job_of old.first second ≡ noted t (is_ok result) old) turn
+          (ap (λ f. job_of old.first f) h.is ∙ ap (λ (t : TileView). job_of old.first (Some t)) h.step.noted
+          ∙ write_notes_second was.at was.written was.flushed (is_ok result) (lease_in old.first) (not_at_first old.span was old.first touched)
+          ∙ ap (λ f. job_written (at_of f) (is_ok result) (job_of old.first f)) (sym h.here));
       sound = subst (λ p. ∥ IsSound slots p old.span old.first second ∥₁) (sym at)
           (subst (λ ss. ∥ IsSound ss old.place old.span old.first second ∥₁) (sym same)
           (subst (λ f. ∥ IsSound old.slots old.place old.span old.first f ∥₁) (sym h.is) after));
@@ -144,6 +161,7 @@ flush_first {T} {E} {obeys_slots} {obeys_block} {keeps} {result} {asked_old} {as
     unflushed (ap (λ (t : TileView). t.flushed) h.step.noted) in
     let counted : IsCounted result (left_of (Some was) old.second) (left_of (Some now) old.second) =
     subst (λ w. IsCounted result (left_of (Some was) old.second) ((one_if (not w) + one_if (is_unwritten old.second)) + (one_if (not now.flushed) + one_if (is_unflushed old.second)))) (sym kept) flushed in
+    let touched : are_touched old.span (Some was) old.second ≡ true = ∥∥₁_elim known (hlevel props) (λ k. k.touched) in
     record {
       makes = subst (λ t. MakesTurn obeys_slots obeys_block keeps t result asked_old old asked_new
           (record { ino = old.ino; place = old.place; span = old.span; slots = old.slots; first = first; second = old.second })) turn
@@ -156,6 +174,10 @@ flush_first {T} {E} {obeys_slots} {obeys_block} {keeps} {result} {asked_old} {as
           };
       counted = subst (λ f. IsCounted result (left_of f old.second) (left_of first old.second)) (sym h.here)
           (subst (λ f. IsCounted result (left_of (Some was) old.second) (left_of f old.second)) (sym h.is) counted);
+      notes = subst (λ t. job_of first old.second ≡ noted t (is_ok result) old) turn
+          (ap (λ f. job_of f old.second) h.is ∙ ap (λ (t : TileView). job_of (Some t) old.second) h.step.noted
+          ∙ flush_notes_first was.at was.written was.flushed (is_ok result) (lease_in old.second) (not_at_second old.span was old.second touched) written unflushed
+          ∙ ap (λ f. if◌then◌else◌ {A = Job} (is_ok result) (job_flushed (at_of f) (job_of f old.second)) (job_of f old.second)) (sym h.here));
       sound = subst (λ f. ∥ IsSound old.slots old.place old.span f old.second ∥₁) (sym h.is) after;
     }
 
@@ -183,6 +205,7 @@ flush_second {T} {E} {obeys_slots} {obeys_block} {keeps} {result} {asked_old} {a
     unflushed (ap (λ (t : TileView). t.flushed) h.step.noted)) in
     let counted : IsCounted result (left_of old.first (Some was)) (left_of old.first (Some now)) =
     subst (λ w. IsCounted result (left_of old.first (Some was)) ((one_if (is_unwritten old.first) + one_if (not w)) + (one_if (is_unflushed old.first) + one_if (not now.flushed)))) (sym kept) flushed in
+    let touched : are_touched old.span old.first (Some was) ≡ true = ∥∥₁_elim known (hlevel props) (λ k. k.touched) in
     record {
       makes = subst (λ t. MakesTurn obeys_slots obeys_block keeps t result asked_old old asked_new
           (record { ino = old.ino; place = old.place; span = old.span; slots = old.slots; first = old.first; second = second })) turn
@@ -195,5 +218,9 @@ flush_second {T} {E} {obeys_slots} {obeys_block} {keeps} {result} {asked_old} {a
           };
       counted = subst (λ f. IsCounted result (left_of old.first f) (left_of old.first second)) (sym h.here)
           (subst (λ f. IsCounted result (left_of old.first (Some was)) (left_of old.first f)) (sym h.is) counted);
+      notes = subst (λ t. job_of old.first second ≡ noted t (is_ok result) old) turn
+          (ap (λ f. job_of old.first f) h.is ∙ ap (λ (t : TileView). job_of old.first (Some t)) h.step.noted
+          ∙ flush_notes_second was.at was.written was.flushed (is_ok result) (lease_in old.first) (not_at_first old.span was old.first touched) written unflushed
+          ∙ ap (λ f. if◌then◌else◌ {A = Job} (is_ok result) (job_flushed (at_of f) (job_of old.first f)) (job_of old.first f)) (sym h.here));
       sound = subst (λ f. ∥ IsSound old.slots old.place old.span old.first f ∥₁) (sym h.is) after;
     }

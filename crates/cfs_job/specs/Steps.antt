@@ -1,6 +1,9 @@
 -- The steps of a job: which come, and what each does.
 use Rattle.std.specs.Prelude.{ℕ, ◌+◌, ◌≡◌, Bool, true, false, not, if◌then◌else◌, Option, Some, None, List, [], Result, is_ok}
 use Rattle.std.specs.List.{flat_map}
+use Rattle.cfs_core.specs.declared.state.Job.{Job}
+use Rattle.cfs_core.specs.declared.state.Lease.{Lease}
+use Rattle.cfs_core.specs.Jobs.{job_flushed, job_written}
 use Rattle.cfs_pmem.specs.declared.trace.Asked.{Asked}
 use Rattle.cfs_pmem.specs.Images.{Seen, WordStep, devices_of}
 use Rattle.cfs_file.specs.declared.span.Span.{Span}
@@ -82,3 +85,29 @@ MakesTurn obeys_slots obeys_block keeps_refused turns.FlushSecond result asked_o
     old.second (λ now. record old { second = Some now }) new
 MakesTurn obeys_slots obeys_block keeps_refused turns.Nothing result asked_old old asked_new new =
     (is_ok result ≡ true) × (asked_new ≡ asked_old) × (new ≡ old)
+
+-- ---- what the core notes of a job
+
+abbrev pub lease_in : Option TileView → Option Lease
+lease_in None = None
+lease_in (Some tile) =
+    Some (record { block = tile.at; written = tile.written; flushed = tile.flushed })
+
+-- the job as the core has it
+abbrev pub core_job : JobView → Job
+core_job job = record { first = lease_in job.first; second = lease_in job.second }
+
+abbrev pub at_of : Option TileView → ℕ
+at_of None = 0
+at_of (Some tile) = tile.at
+
+-- that job behind the core's event of a turn: a write that went well or failed, or a flush, of which
+-- one that failed changes nothing
+abbrev pub noted : Turn → Bool → JobView → Job
+noted turns.WriteFirst ok job = job_written (at_of job.first) ok (core_job job)
+noted turns.WriteSecond ok job = job_written (at_of job.second) ok (core_job job)
+noted turns.FlushFirst ok job =
+    if ok then job_flushed (at_of job.first) (core_job job) else core_job job
+noted turns.FlushSecond ok job =
+    if ok then job_flushed (at_of job.second) (core_job job) else core_job job
+noted turns.Nothing ok job = core_job job

@@ -1,5 +1,5 @@
 //! A job: one live request, the blocks that it is written into, and its device steps.
-ghost use Rattle.std.specs.Prelude.{◌≡◌, ◌≤◌, ◌-◌, true, false, [], Some, map, OnOk, OnErr};
+ghost use Rattle.std.specs.Prelude.{◌≡◌, ◌≤◌, ◌-◌, true, false, [], Some, is_ok, map, OnOk, OnErr};
 ghost use Rattle.cfs_slot.specs.Reads.{regions_of};
 ghost use Rattle.cfs_slot.specs.Regions.{place_of};
 ghost use Rattle.cfs_job.specs.Stands.{IsDurable, IsOpenFor, IsSound, IsSpanOf, ReadsAsNoted, StaysOutside, are_touched};
@@ -40,7 +40,7 @@ fn one_if(test: bool) -> u32
 impl<R: Region + Drop, B: Block + Drop> Job<R, B> {
     ghost use Rattle.cfs_job.specs.Counts.{HasCauseIn};
     ghost use Rattle.cfs_job.specs.Jobs.{block_faults, first_in, job_view, request_in, second_in, slot_faults, view_of_parts};
-    ghost use Rattle.cfs_job.specs.Steps.{MakesTurn, next_turn, steps_left};
+    ghost use Rattle.cfs_job.specs.Steps.{MakesTurn, core_job, next_turn, noted, steps_left};
 
     /// Whether a job of a request with these positions can have these blocks: the span touches
     /// them, and the first is below the second.
@@ -132,6 +132,10 @@ impl<R: Region + Drop, B: Block + Drop> Job<R, B> {
             (next_turn (job_view R.seen B.seen B.number self.old)) result
             (P.asked power.old) (job_view R.seen B.seen B.number self.old)
             (P.asked power.new) (job_view R.seen B.seen B.number self.new) }
+        // The core notes the same of the job behind the event of this step.
+        ensures notes { core_job (job_view R.seen B.seen B.number self.new) ≡
+            noted (next_turn (job_view R.seen B.seen B.number self.old)) (is_ok result)
+            (job_view R.seen B.seen B.number self.old) }
         ensures ok { OnOk result (steps_left (job_view R.seen B.seen B.number self.new) ≡
             steps_left (job_view R.seen B.seen B.number self.old) - 1) }
         ensures err { OnErr result (steps_left (job_view R.seen B.seen B.number self.new) ≡

@@ -43,6 +43,13 @@ returns-in-WriteFirst-clause-makes g c =
     (tile_in g.B.Block.seen g.B.Block.number c.write_in.new.tile) (sym c.in-WriteFirst.is ∙ c.next.ensures) c.args.self.now.sound c.write_in.ensures.place c.write_in.ensures.seen
     (λ was is. full_in g.B.Block.seen g.B.Block.number g.met.B.Block.full c.args.self.now.first was is) c.write_in.ensures.writes).makes
 
+pub returns-in-WriteFirst-clause-notes : goal.returns-in-WriteFirst-clause-notes
+returns-in-WriteFirst-clause-notes g c =
+    let old = job_view g.R.Region.seen g.B.Block.seen g.B.Block.number c.args.self.now in
+    (made.write_first old (place_of c.write_in.new.request) (map g.R.Region.seen (regions_of c.write_in.new.request))
+    (tile_in g.B.Block.seen g.B.Block.number c.write_in.new.tile) (sym c.in-WriteFirst.is ∙ c.next.ensures) c.args.self.now.sound c.write_in.ensures.place c.write_in.ensures.seen
+    (λ was is. full_in g.B.Block.seen g.B.Block.number g.met.B.Block.full c.args.self.now.first was is) c.write_in.ensures.writes).notes
+
 pub returns-in-WriteFirst-clause-ok : goal.returns-in-WriteFirst-clause-ok
 returns-in-WriteFirst-clause-ok g c =
     let old = job_view g.R.Region.seen g.B.Block.seen g.B.Block.number c.args.self.now in
@@ -87,6 +94,13 @@ returns-in-WriteSecond-clause-makes g c =
     (tile_in g.B.Block.seen g.B.Block.number c.write_in-in-WriteSecond.new.tile) (sym c.in-WriteSecond.is ∙ c.next.ensures) c.args.self.now.sound c.write_in-in-WriteSecond.ensures.place c.write_in-in-WriteSecond.ensures.seen
     (λ was is. full_in g.B.Block.seen g.B.Block.number g.met.B.Block.full c.args.self.now.second was is) c.write_in-in-WriteSecond.ensures.writes).makes
 
+pub returns-in-WriteSecond-clause-notes : goal.returns-in-WriteSecond-clause-notes
+returns-in-WriteSecond-clause-notes g c =
+    let old = job_view g.R.Region.seen g.B.Block.seen g.B.Block.number c.args.self.now in
+    (made.write_second old (place_of c.write_in-in-WriteSecond.new.request) (map g.R.Region.seen (regions_of c.write_in-in-WriteSecond.new.request))
+    (tile_in g.B.Block.seen g.B.Block.number c.write_in-in-WriteSecond.new.tile) (sym c.in-WriteSecond.is ∙ c.next.ensures) c.args.self.now.sound c.write_in-in-WriteSecond.ensures.place c.write_in-in-WriteSecond.ensures.seen
+    (λ was is. full_in g.B.Block.seen g.B.Block.number g.met.B.Block.full c.args.self.now.second was is) c.write_in-in-WriteSecond.ensures.writes).notes
+
 pub returns-in-WriteSecond-clause-ok : goal.returns-in-WriteSecond-clause-ok
 returns-in-WriteSecond-clause-ok g c =
     let old = job_view g.R.Region.seen g.B.Block.seen g.B.Block.number c.args.self.now in
@@ -125,6 +139,12 @@ returns-in-FlushFirst-clause-makes g c =
     (made.flush_first {obeys_slots = g.R.Region.obeys_power} old (tile_in g.B.Block.seen g.B.Block.number c.flush_in.new.tile) (sym c.in-FlushFirst.is ∙ c.next.ensures)
     c.args.self.now.sound c.flush_in.ensures.flushes).makes
 
+pub returns-in-FlushFirst-clause-notes : goal.returns-in-FlushFirst-clause-notes
+returns-in-FlushFirst-clause-notes g c =
+    let old = job_view g.R.Region.seen g.B.Block.seen g.B.Block.number c.args.self.now in
+    (made.flush_first {obeys_slots = g.R.Region.obeys_power} old (tile_in g.B.Block.seen g.B.Block.number c.flush_in.new.tile) (sym c.in-FlushFirst.is ∙ c.next.ensures)
+    c.args.self.now.sound c.flush_in.ensures.flushes).notes
+
 pub returns-in-FlushFirst-clause-ok : goal.returns-in-FlushFirst-clause-ok
 returns-in-FlushFirst-clause-ok g c =
     let old = job_view g.R.Region.seen g.B.Block.seen g.B.Block.number c.args.self.now in
@@ -160,6 +180,12 @@ returns-in-FlushSecond-clause-makes g c =
     let old = job_view g.R.Region.seen g.B.Block.seen g.B.Block.number c.args.self.now in
     (made.flush_second {obeys_slots = g.R.Region.obeys_power} old (tile_in g.B.Block.seen g.B.Block.number c.flush_in-in-FlushSecond.new.tile) (sym c.in-FlushSecond.is ∙ c.next.ensures)
     c.args.self.now.sound c.flush_in-in-FlushSecond.ensures.flushes).makes
+
+pub returns-in-FlushSecond-clause-notes : goal.returns-in-FlushSecond-clause-notes
+returns-in-FlushSecond-clause-notes g c =
+    let old = job_view g.R.Region.seen g.B.Block.seen g.B.Block.number c.args.self.now in
+    (made.flush_second {obeys_slots = g.R.Region.obeys_power} old (tile_in g.B.Block.seen g.B.Block.number c.flush_in-in-FlushSecond.new.tile) (sym c.in-FlushSecond.is ∙ c.next.ensures)
+    c.args.self.now.sound c.flush_in-in-FlushSecond.ensures.flushes).notes
 
 pub returns-in-FlushSecond-clause-ok : goal.returns-in-FlushSecond-clause-ok
 returns-in-FlushSecond-clause-ok g c =
