@@ -1,5 +1,5 @@
 -- Counts of faults of a job's devices.
-use Rattle.std.proofs.Common.{ℕ, ◌≡◌, ◌⊎◌, Option, Some, None, Result, Ok, Err, List, [], ◌∷◌, ◌++◌, inl, inr, refl, sym, ap, subst, arith}
+use Rattle.std.proofs.Common.{ℕ, ◌≡◌, Result, Ok, Err, List, [], ◌∷◌, ◌++◌, inl, inr, refl, sym, ap, subst, arith}
 use Rattle.cfs_pmem.specs.Faults.{HasCause}
 use Rattle.cfs_slot.specs.Payload.{HaveCause, NoneFell, SomeRose}
 use Rattle.cfs_job.specs.Counts.{HasCauseIn}

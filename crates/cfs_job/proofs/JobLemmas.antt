@@ -1,7 +1,6 @@
 -- A job as its steps leave it.
-use Rattle.std.proofs.Common.{ℕ, ◌+◌, ◌-◌, ◌<◌, ◌≤◌, ◌≡◌, ◌∙◌, ◌&&◌, Bool, true, false, not, nat_lt, if◌then◌else◌, Option, Some, None, Result, Ok, Err, OnOk, OnErr, List, [], ◌∷◌, length, is_ok, refl, sym, ap, subst, arith}
+use Rattle.std.proofs.Common.{ℕ, ◌+◌, ◌-◌, ◌≡◌, ◌&&◌, Bool, true, false, not, nat_lt, if◌then◌else◌, Option, Some, None, Result, Ok, Err, OnOk, OnErr, List, [], ◌∷◌, length, is_ok, refl, sym, ap, subst, arith}
 use Rattle.std.proofs.Props.{props}
-use Rattle.std.proofs.Math.Logic.{∥∥₁_elim}
 use Rattle.cfs_file.specs.declared.span.Span.{Span}
 use Rattle.cfs_core.proofs.Legal.{both}
 use Rattle.cfs_pmem.specs.declared.trace.Asked.{Asked}
@@ -15,7 +14,7 @@ use Rattle.cfs_job.proofs.OpLemmas.{ranged_from_same}
 use Rattle.cfs_job.specs.declared.turn.Turn.{Turn}
 use Rattle.cfs_job.specs.declared.turn.Turn.TheVariants as turns
 use Rattle.cfs_job.specs.Stands.{IsDurable, IsOpen, IsOpenFor, IsSound, IsSpanOf, Keeps, ReadsAsNoted, StaysOutside, TileKeeps, are_touched, is_touched, is_touched_by}
-use Rattle.cfs_job.specs.Steps.{Flushes, IsStepOn, MakesTurn, Writes, is_unflushed, is_unwritten, next_turn, one_if, steps_left}
+use Rattle.cfs_job.specs.Steps.{Flushes, Writes, is_unflushed, is_unwritten, next_turn, one_if, steps_left}
 use Rattle.cfs_job.specs.Views.{JobView, TileView, payload_seen}
 use Rattle.cfs_job.proofs.KeepLemmas.{flush_keeps, write_keeps}
 

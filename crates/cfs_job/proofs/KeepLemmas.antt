@@ -1,16 +1,15 @@
 -- What a job's blocks keep at each step.
-use Rattle.std.proofs.Common.{ℕ, zero, suc, ◌+◌, ◌-◌, ◌*◌, ◌<◌, ◌≤◌, ◌≡◌, ◌⊎◌, ◌∙◌, Bool, true, false, Result, Ok, Err, OnOk, OnErr, List, [], ◌∷◌, ◌++◌, length, map, take, drop, min, max, is_ok, inl, inr, refl, sym, ap, subst, arith}
+use Rattle.std.proofs.Common.{ℕ, zero, suc, ◌+◌, ◌-◌, ◌<◌, ◌≤◌, ◌≡◌, ◌∙◌, Bool, true, false, Result, Ok, Err, List, [], ◌∷◌, ◌++◌, length, take, drop, is_ok, refl, sym, ap, subst, arith}
 use Rattle.std.proofs.lemmas.List.{length-drop, length-replicate, length-take-le}
 use Rattle.std.proofs.Math.Seq.{drop-append-add, take-append_seam}
-use Rattle.std.proofs.lemmas.Bool.{cases_lt}
 use Rattle.cfs_file.specs.declared.span.Span.{Span}
 use Rattle.cfs_file.specs.declared.span.Span.TheVariants.{Nothing, Range, From}
-use Rattle.cfs_core.specs.Words.{end_in, piece_in, start_in}
+use Rattle.cfs_core.specs.Words.{piece_in, start_in}
 use Rattle.cfs_pmem.specs.declared.trace.Asked.{Asked}
 use Rattle.cfs_pmem.specs.Images.{Seen, WordStep, patched}
 use Rattle.cfs_pmem.specs.Operations.{LastFails}
 use Rattle.cfs_pmem.proofs.MomentLemmas.{at_end}
-use Rattle.cfs_block.specs.BlockImages.{BlockStep, Content, AllBlockImages, DiffersWithin, IsBlockImage, IsRangedFrom, content_of, kept, unflushed, with_bytes, wrote}
+use Rattle.cfs_block.specs.BlockImages.{BlockStep, Content, AllBlockImages, IsBlockImage, IsRangedFrom, content_of, with_bytes}
 use Rattle.cfs_block.proofs.BlockLemmas.{all_kept}
 use Rattle.cfs_job.specs.Ops.{JobFails, WorksOn, count_in, devices_seen, flush_ops, job_done, piece_reads, place_in, write_ops}
 use Rattle.cfs_job.specs.Stands.{HasPiece, IsSpanOf, TileKeeps, is_touched}

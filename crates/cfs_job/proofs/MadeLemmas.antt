@@ -1,5 +1,5 @@
 -- One step of a job, by its turn.
-use Rattle.std.proofs.Common.{ℕ, ◌+◌, ◌-◌, ◌≡◌, ◌∙◌, Bool, true, false, not, Option, Some, None, Result, Ok, Err, OnOk, OnErr, List, length, if◌then◌else◌, is_ok, refl, sym, ap, subst, arith}
+use Rattle.std.proofs.Common.{ℕ, ◌+◌, ◌≡◌, ◌∙◌, Bool, true, false, not, Option, Some, None, Result, List, length, if◌then◌else◌, is_ok, refl, sym, ap, subst}
 use Rattle.std.proofs.Props.{props}
 use Rattle.std.proofs.Math.Logic.{∥∥₁_elim, ∥∥₁_map}
 use Rattle.cfs_file.specs.declared.span.Span.{Span}
@@ -13,7 +13,7 @@ use Rattle.cfs_job.specs.declared.turn.Turn.TheVariants as turns
 use Rattle.cfs_job.specs.Stands.{IsSound, TileKeeps, are_touched}
 use Rattle.cfs_job.specs.Steps.{Flushes, IsStepOn, MakesTurn, Writes, at_of, core_job, is_unflushed, is_unwritten, lease_in, next_turn, noted, one_if, steps_left}
 use Rattle.cfs_job.specs.Tiles.{tile_in, tile_view}
-use Rattle.cfs_job.specs.Views.{JobView, TileView, payload_seen}
+use Rattle.cfs_job.specs.Views.{JobView, TileView}
 use Rattle.cfs_job.proofs.NoteLemmas.{flush_notes_first, flush_notes_second, not_at_first, not_at_second, write_notes_first, write_notes_second}
 use Rattle.cfs_job.proofs.JobLemmas.{IsCounted, count_flushed, count_written, sound_flush_first, sound_flush_second, sound_write_first, sound_write_second, swapped, turn_flush_first, turn_flush_second, turn_write_first, turn_write_second, unflushed_is, unwritten_is, written_is}
 

@@ -1,13 +1,12 @@
 -- The operations of a step, one after another.
-use Rattle.std.proofs.Common.{ℕ, suc, ◌+◌, ◌<◌, ◌≤◌, ◌≡◌, ◌∙◌, Bool, true, false, IsTrue, Result, Ok, Err, OnOk, OnErr, List, [], ◌∷◌, ◌++◌, length, map, drop, is_ok, refl, sym, ap, subst, arith}
+use Rattle.std.proofs.Common.{ℕ, suc, ◌+◌, ◌<◌, ◌≤◌, ◌≡◌, ◌∙◌, Bool, true, false, IsTrue, Result, Ok, Err, OnOk, OnErr, List, [], ◌∷◌, ◌++◌, length, map, drop, refl, sym, ap, subst, arith}
 use Rattle.std.proofs.lemmas.List.{drop-map, length-map, length-drop}
 use Rattle.cfs_pmem.specs.declared.trace.Asked.{Asked}
 use Rattle.cfs_pmem.specs.declared.trace.Asked.TheVariants.{Step}
 use Rattle.cfs_pmem.specs.Asks.{AsksOnce, AsksSome}
 use Rattle.cfs_pmem.specs.Images.{Seen, devices_of}
-use Rattle.cfs_pmem.specs.Moments.{Moments}
-use Rattle.cfs_pmem.specs.Operations.{LastFails, after_all, all_allowed, answered, last_refused, Does, FrontDone, AllDone}
-use Rattle.cfs_pmem.proofs.CallLemmas.{done_none, done_more, fails_next, does_front}
+use Rattle.cfs_pmem.specs.Operations.{LastFails, after_all, all_allowed, answered, last_refused, AllDone}
+use Rattle.cfs_pmem.proofs.CallLemmas.{done_none, done_more, fails_next}
 use Rattle.cfs_pmem.proofs.MomentLemmas.{begun, extended}
 use Rattle.cfs_block.specs.BlockImages.{BlockStep, Content, AllBlockImages, IsBlockImage, IsRangedFrom, WriteFails, content_of, kept, unflushed, wrote}
 use Rattle.cfs_block.specs.BlockOps.{BlockOp, flush, put_bytes}

@@ -1,13 +1,11 @@
 -- The part of a request in a block of its file.
-use Rattle.std.proofs.Common.{ℕ, zero, suc, ◌+◌, ◌-◌, ◌*◌, ◌/◌, ◌%◌, ◌^◌, ◌<◌, ◌≤◌, ◌≡◌, ◌∙◌, ◌==◌, ◌&&◌, Bool, true, false, cond, nat_lt, Result, Ok, Err, OnOk, List, [], ◌∷◌, ◌++◌, length, map, take, drop, min, max, get_or, if◌then◌else◌, refl, sym, ap, subst, arith, length-append}
+use Rattle.std.proofs.Common.{ℕ, zero, suc, ◌+◌, ◌-◌, ◌*◌, ◌/◌, ◌%◌, ◌<◌, ◌≤◌, ◌≡◌, ◌∙◌, ◌==◌, Bool, true, false, cond, nat_lt, Result, Ok, Err, OnOk, List, [], ◌∷◌, ◌++◌, length, map, take, drop, min, max, get_or, if◌then◌else◌, refl, sym, ap, subst, arith, length-append}
 use Rattle.std.proofs.Math.ListN.{replicate}
 use Rattle.std.proofs.lemmas.Bool.{ltb-true}
-use Rattle.std.proofs.lemmas.Bool.Decides.{nat_tests}
 use Rattle.std.proofs.lemmas.List.{take-replicate}
 use Rattle.std.proofs.lemmas.Simd.{map-map}
 use Rattle.std.proofs.Math.Seq.{take-append_seam}
-use Rattle.cfs_file.specs.Span.{between, meets, span}
-use Rattle.cfs_file.specs.declared.request.Request.{Request}
+use Rattle.cfs_file.specs.Span.{meets, span}
 use Rattle.cfs_file.specs.declared.request.Request.TheVariants.{Write, Truncate}
 use Rattle.cfs_file.specs.declared.sizes.TheConstants.{BLOCK_LEN, FILE_BLOCKS}
 use Rattle.cfs_file.specs.declared.span.Span.{Span}
@@ -18,13 +16,13 @@ use Rattle.cfs_pmem.specs.Images.{Seen, WordStep, words_of}
 use Rattle.cfs_block.specs.BlockImages.{zeros}
 use Rattle.cfs_block.proofs.BlockLemmas.{zeros-are}
 use Rattle.cfs_slot.specs.declared.live.Live.{Live}
-use Rattle.cfs_slot.specs.Payload.{SlotRead, area_reads, payload_reads, reads_from}
+use Rattle.cfs_slot.specs.Payload.{area_reads, payload_reads, reads_from}
 use Rattle.cfs_slot.specs.Reads.{payload_in, regions_of}
 use Rattle.cfs_slot.specs.Regions.{devices_in, of_live, tails_of_live}
 use Rattle.cfs_slot.specs.Words.{kind_of, offset_of, payload_of}
-use Rattle.cfs_job.specs.Ops.{count_in, devices_seen, piece_reads, place_in}
+use Rattle.cfs_job.specs.Ops.{count_in, devices_seen, piece_reads}
 use Rattle.cfs_job.specs.Stands.{IsSpanOf, is_touched}
-use Rattle.cfs_job.specs.Views.{payload_seen, request_seen}
+use Rattle.cfs_job.specs.Views.{payload_seen}
 
 -- some positions of the span are in the block, and its part lies in it
 pub record IsWithin (s : Span) (at : ℕ) : Type 0 where

@@ -1,5 +1,5 @@
 -- A step on a block, as it is noted.
-use Rattle.std.proofs.Common.{ℕ, ◌≡◌, ◌∙◌, Bool, true, false, Result, List, [], is_ok, refl, sym, ap, subst}
+use Rattle.std.proofs.Common.{ℕ, ◌≡◌, ◌∙◌, Bool, true, false, Result, List, [], is_ok, ap}
 use Rattle.cfs_file.specs.declared.span.Span.{Span}
 use Rattle.cfs_pmem.specs.declared.trace.Asked.{Asked}
 use Rattle.cfs_pmem.specs.Images.{Seen, WordStep, devices_of}

@@ -1,11 +1,11 @@
 -- What a job is given, and what its blocks keep.
-use Rattle.std.specs.Prelude.{ℕ, ◌+◌, ◌≤◌, ◌<◌, ◌≡◌, Bool, true, false, ◌&&◌, Option, Some, None, List, [], ◌∷◌, length, take, drop, nat_lt}
+use Rattle.std.specs.Prelude.{ℕ, ◌≡◌, Bool, true, false, ◌&&◌, Option, Some, None, List, [], ◌∷◌, take, drop, nat_lt}
 use Rattle.cfs_file.specs.Span.{meets, span}
-use Rattle.cfs_file.specs.declared.sizes.TheConstants.{BLOCK_LEN, FILE_BLOCKS}
+use Rattle.cfs_file.specs.declared.sizes.TheConstants.{FILE_BLOCKS}
 use Rattle.cfs_file.specs.declared.span.Span.{Span}
 use Rattle.cfs_core.specs.Words.{block_span, piece_in}
 use Rattle.cfs_pmem.specs.Images.{Seen, WordStep, IsImage}
-use Rattle.cfs_block.specs.BlockImages.{BlockStep, Content, AllBlockImages, IsRangedFrom, content_of}
+use Rattle.cfs_block.specs.BlockImages.{Content, AllBlockImages, IsRangedFrom, content_of}
 use Rattle.cfs_slot.specs.Words.{gate_of}
 use Rattle.cfs_job.specs.Ops.{count_in, place_in}
 use Rattle.cfs_job.specs.Views.{TileView, payload_seen, request_seen}

@@ -1,5 +1,5 @@
 -- The blocks of a job as its structs hold them.
-use Rattle.std.specs.Prelude.{ℕ, Bool, false, Option, Some, None}
+use Rattle.std.specs.Prelude.{ℕ, false, Option, Some, None}
 use Rattle.cfs_pmem.specs.Images.{Seen}
 use Rattle.cfs_block.specs.BlockImages.{BlockStep}
 use Rattle.cfs_job.specs.declared.lent.Lent.{Lent}

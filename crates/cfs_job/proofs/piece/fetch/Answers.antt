@@ -1,5 +1,4 @@
-use Rattle.std.proofs.Common.{ℕ, ◌-◌, ◌+◌, ◌<◌, ◌≤◌, ◌≡◌, ◌∙◌, List, Result, Ok, Err, OnErr, inl, inr, length, map, take, drop, refl, sym, ap, subst, arith, rules}
-use Rattle.std.proofs.Math.ListN.{replicate}
+use Rattle.std.proofs.Common.{ℕ, ◌-◌, ◌+◌, ◌<◌, ◌≤◌, ◌≡◌, ◌∙◌, List, Ok, Err, OnErr, inl, inr, length, map, take, drop, refl, sym, ap, subst, rules}
 use Rattle.std.proofs.lemmas.List.{length-replicate}
 use Rattle.cfs_core.specs.Words.{piece_in, start_in}
 use Rattle.cfs_pmem.specs.Images.{Seen, WordStep}
@@ -14,7 +13,7 @@ use Rattle.cfs_slot.specs.Reads.{payload_in, regions_of}
 use Rattle.cfs_slot.specs.Regions.{devices_in}
 use Rattle.cfs_job.specs.Ops.{count_in, devices_seen, piece_reads}
 use Rattle.cfs_job.specs.Views.{payload_seen}
-use Rattle.cfs_job.proofs.PieceLemmas.{IsRoom, devices_same, not_nothing, ok_also, payload_same, piece_read, read_room, reads_are, reads_some, no_reads, zeros_are}
+use Rattle.cfs_job.proofs.PieceLemmas.{devices_same, not_nothing, ok_also, payload_same, piece_read, read_room, reads_are, reads_some, no_reads, zeros_are}
 use Rattle.cfs_job.proofs.piece.fetch.Goals as goal
 
 pub start_in-requires : goal.start_in-requires

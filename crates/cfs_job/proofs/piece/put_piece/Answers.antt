@@ -1,5 +1,5 @@
-use Rattle.std.proofs.Common.{ℕ, ◌-◌, ◌+◌, ◌*◌, ◌<◌, ◌≤◌, ◌≡◌, ◌∙◌, List, [], ◌∷◌, ◌++◌, Result, Ok, Err, length, map, take, drop, refl, sym, ap, subst, arith, rules}
-use Rattle.std.proofs.lemmas.List.{length-replicate, take-replicate}
+use Rattle.std.proofs.Common.{ℕ, ◌-◌, ◌*◌, ◌≡◌, ◌∙◌, List, [], ◌∷◌, ◌++◌, length, map, take, drop, sym, ap, arith, rules}
+use Rattle.std.proofs.lemmas.List.{length-replicate}
 use Rattle.std.proofs.lemmas.Result.{err_from_is_err_and}
 use Rattle.cfs_core.specs.Words.{end_in, piece_in, start_in}
 use Rattle.cfs_pmem.specs.Images.{Seen, WordStep}

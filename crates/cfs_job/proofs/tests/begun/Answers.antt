@@ -1,4 +1,4 @@
-use Rattle.std.proofs.Common.{ℕ, ◌≡◌, ◌∙◌, Option, Some, None, List, sym, ap, arith}
+use Rattle.std.proofs.Common.{ℕ, ◌∙◌, Option, Some, None, List, sym, ap, arith}
 use Rattle.cfs_file.specs.Span.{span}
 use Rattle.cfs_pmem.specs.Images.{Seen, WordStep}
 use Rattle.cfs_job.specs.Stands.{IsOpen, IsOpenFor}

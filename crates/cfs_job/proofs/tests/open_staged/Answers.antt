@@ -1,4 +1,4 @@
-use Rattle.std.proofs.Common.{ℕ, ◌<◌, ◌≡◌, ◌∙◌, Bool, true, false, Option, Some, None, List, length, map, if◌then◌else◌, refl, sym, ap, arith, get_or-set_same}
+use Rattle.std.proofs.Common.{ℕ, ◌<◌, ◌≡◌, ◌∙◌, Bool, true, false, Option, Some, None, List, length, if◌then◌else◌, sym, ap, arith, get_or-set_same}
 use Rattle.std.proofs.lemmas.Simd.{map-map}
 use Rattle.cfs_file.specs.declared.request.Request.{Request}
 use Rattle.cfs_pmem.specs.Images.{MemoryRegion, Seen, WordStep, words_of}

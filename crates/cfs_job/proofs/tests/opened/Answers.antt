@@ -1,9 +1,5 @@
-use Rattle.std.proofs.Common.{ℕ, ◌≡◌, ◌∙◌, true, Option, Some, None, length, sym, ap, subst, rules}
-use Rattle.std.proofs.lemmas.List.{length-map}
-use Rattle.std.specs.Bool.{IsTrue}
+use Rattle.std.proofs.Common.{◌∙◌, Option, Some, None}
 use Rattle.std.specs.Option.{IfSome}
-use Rattle.cfs_vec.specs.Items.{items_of}
-use Rattle.cfs_slot.specs.declared.slot.Slot.{Slot}
 use Rattle.cfs_job.proofs.tests.opened.Goals as goal
 
 some_also : {A : Type 0} {P Q : A → Type 0} (o : Option A) → ((a : A) → P a → Q a) → IfSome o P → IfSome o Q

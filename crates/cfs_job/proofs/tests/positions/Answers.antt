@@ -1,4 +1,4 @@
-use Rattle.std.proofs.Common.{ℕ, ◌+◌, ◌<◌, ◌^◌, ◌≡◌, length, sym, subst, arith}
+use Rattle.std.proofs.Common.{sym, subst, arith}
 use Rattle.cfs_file.specs.Span.{EndFits}
 use Rattle.cfs_job.proofs.tests.positions.Goals as goal
 

@@ -1,4 +1,4 @@
-use Rattle.std.proofs.Common.{◌≡◌, ◌∙◌, ◌∷◌, [], Bool, true, false, not, refl, sym, ap, subst, rules, map}
+use Rattle.std.proofs.Common.{◌≡◌, ◌∷◌, [], Bool, true, false, not, refl, sym, subst, rules, map}
 use Rattle.cfs_slot.specs.Reads.{regions_of}
 use Rattle.cfs_job.specs.Counts.{HasCauseIn, faults_in}
 use Rattle.cfs_job.specs.Stands.{is_touched_by}

@@ -1,16 +1,12 @@
-use Rattle.std.proofs.Common.{ℕ, ◌≡◌, ◌∙◌, ◌++◌, ◌-◌, true, false, Option, Some, None, Result, Ok, Err, OnOk, OnErr, List, length, map, refl, sym, ap, subst, rules, arith}
+use Rattle.std.proofs.Common.{ℕ, ◌≡◌, ◌∙◌, ◌++◌, ◌-◌, map, sym, ap, rules}
 use Rattle.std.proofs.Props.{props}
 use Rattle.std.proofs.Math.Logic.{∥∥₁_elim}
 use Rattle.cfs_slot.specs.Reads.{regions_of}
 use Rattle.cfs_slot.specs.Regions.{place_of}
-use Rattle.cfs_pmem.specs.Images.{Seen, WordStep}
-use Rattle.cfs_pmem.specs.declared.fault.DeviceFault.{DeviceFault}
 use Rattle.cfs_job.specs.Counts.{faults_in}
 use Rattle.cfs_job.specs.Jobs.{job_view}
-use Rattle.cfs_job.specs.Stands.{IsSound, IsSpanOf, is_touched_by}
-use Rattle.cfs_job.specs.Steps.{IsStepOn, Writes, next_turn, steps_left}
+use Rattle.cfs_job.specs.Steps.{steps_left}
 use Rattle.cfs_job.specs.Tiles.{tile_in}
-use Rattle.cfs_job.specs.Views.{JobView}
 use Rattle.cfs_job.proofs.CauseLemmas.{blocks_alone, nothing_called, with_before, with_behind}
 use Rattle.cfs_job.proofs.JobLemmas.{touched_by_first, touched_by_second, turn_flush_first, turn_flush_second, turn_nothing, turn_write_first, turn_write_second}
 use Rattle.cfs_job.proofs.MadeLemmas.{Made, full_in}

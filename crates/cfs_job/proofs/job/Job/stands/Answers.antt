@@ -1,4 +1,3 @@
-use Rattle.std.proofs.Common.{ℕ, ◌≡◌, List}
 use Rattle.std.proofs.Math.Logic.{∥∥₁_elim}
 use Rattle.cfs_job.specs.Jobs.{first_in, job_view}
 use Rattle.cfs_job.specs.Steps.{is_unflushed, is_unwritten}

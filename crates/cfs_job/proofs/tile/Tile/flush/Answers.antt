@@ -1,6 +1,5 @@
-use Rattle.std.proofs.Common.{true, Ok, Err, [], refl, sym, ap, subst, ◌∙◌, is_ok}
+use Rattle.std.proofs.Common.{true, Ok, [], refl, sym, ap, ◌∙◌, is_ok}
 use Rattle.std.proofs.lemmas.Result.{err_from_is_err_and}
-use Rattle.cfs_job.specs.Steps.{Flushes}
 use Rattle.cfs_job.specs.Tiles.{tile_view}
 use Rattle.cfs_job.proofs.OpLemmas.{flush_failed, flush_made}
 use Rattle.cfs_job.proofs.TileLemmas.{tile_flushed}
