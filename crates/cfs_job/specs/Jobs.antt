@@ -13,8 +13,8 @@ use Rattle.cfs_job.specs.Tiles.{lent_in, tile_in, tile_of}
 use Rattle.cfs_job.specs.Views.{JobView}
 
 -- where `words`, `bytes` and `number` tell what regions and blocks are
-abbrev pub job_view : {R B : Type 0} {g h : _} → (R → Seen WordStep) → (B → Seen BlockStep) → (B → ℕ)
-    → Job R B g h → JobView
+abbrev pub job_view : {R B : Type 0} {g h : _} → (R → Seen WordStep) → (B → Seen BlockStep)
+    → (B → ℕ) → Job R B g h → JobView
 job_view words bytes number job = record {
   ino = job.ino;
   place = place_of job.request;

@@ -82,7 +82,8 @@ StaysOutside positions (Some tile) =
 -- each image of a block has the request's bytes at its positions
 abbrev pub IsDurable : List ℕ → Span → Option TileView → Type 0
 IsDurable payload positions None = Unit {0}
-IsDurable payload positions (Some tile) = AllBlockImages tile.seen (HasPiece payload positions tile.at)
+IsDurable payload positions (Some tile) =
+    AllBlockImages tile.seen (HasPiece payload positions tile.at)
 
 -- Where a block was written its bytes read so, and only what was written was flushed.
 pub record ReadsSo (payload : List ℕ) (positions : Span) (tile : TileView) : Type 0 where

@@ -69,21 +69,21 @@ pub record IsStepOn {A : Type 0} (Step : TileView → TileView → Type 0) (tile
 -- What a call of a job does, by its turn.
 abbrev pub MakesTurn : {T E : Type 0} → (obeys_slots obeys_block keeps_refused : Bool) → Turn
     → Result T E → List Asked → JobView → List Asked → JobView → Type 0
-MakesTurn obeys_slots obeys_block keeps_refused turns.WriteFirst result asked_old old asked_new new =
-    IsStepOn (λ was now. Writes obeys_slots obeys_block keeps_refused old.slots old.span result
+MakesTurn obeys_slots obeys_block keeps turns.WriteFirst result asked_old old asked_new new =
+    IsStepOn (λ was now. Writes obeys_slots obeys_block keeps old.slots old.span result
     asked_old was asked_new now)
     old.first (λ now. record old { first = Some now }) new
-MakesTurn obeys_slots obeys_block keeps_refused turns.WriteSecond result asked_old old asked_new new =
-    IsStepOn (λ was now. Writes obeys_slots obeys_block keeps_refused old.slots old.span result
+MakesTurn obeys_slots obeys_block keeps turns.WriteSecond result asked_old old asked_new new =
+    IsStepOn (λ was now. Writes obeys_slots obeys_block keeps old.slots old.span result
     asked_old was asked_new now)
     old.second (λ now. record old { second = Some now }) new
-MakesTurn obeys_slots obeys_block keeps_refused turns.FlushFirst result asked_old old asked_new new =
-    IsStepOn (λ was now. Flushes obeys_block keeps_refused result asked_old was asked_new now)
+MakesTurn obeys_slots obeys_block keeps turns.FlushFirst result asked_old old asked_new new =
+    IsStepOn (λ was now. Flushes obeys_block keeps result asked_old was asked_new now)
     old.first (λ now. record old { first = Some now }) new
-MakesTurn obeys_slots obeys_block keeps_refused turns.FlushSecond result asked_old old asked_new new =
-    IsStepOn (λ was now. Flushes obeys_block keeps_refused result asked_old was asked_new now)
+MakesTurn obeys_slots obeys_block keeps turns.FlushSecond result asked_old old asked_new new =
+    IsStepOn (λ was now. Flushes obeys_block keeps result asked_old was asked_new now)
     old.second (λ now. record old { second = Some now }) new
-MakesTurn obeys_slots obeys_block keeps_refused turns.Nothing result asked_old old asked_new new =
+MakesTurn obeys_slots obeys_block keeps turns.Nothing result asked_old old asked_new new =
     (is_ok result ≡ true) × (asked_new ≡ asked_old) × (new ≡ old)
 
 -- ---- what the core notes of a job
@@ -101,8 +101,8 @@ abbrev pub at_of : Option TileView → ℕ
 at_of None = 0
 at_of (Some tile) = tile.at
 
--- that job behind the core's event of a turn: a write that went well or failed, or a flush, of which
--- one that failed changes nothing
+-- That job behind the core's event of a turn: a write that went well or failed, or a flush, of
+-- which one that failed changes nothing.
 abbrev pub noted : Turn → Bool → JobView → Job
 noted turns.WriteFirst ok job = job_written (at_of job.first) ok (core_job job)
 noted turns.WriteSecond ok job = job_written (at_of job.second) ok (core_job job)

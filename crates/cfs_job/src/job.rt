@@ -30,6 +30,7 @@ pub struct Job<R: Region, B: Block> {
         (tile_in B.seen B.number first) (tile_in B.seen B.number second) ∥₁ },
 }
 
+/// 1 where the test holds, and else 0.
 fn one_if(test: bool) -> u32
     ensures value { result ≡ one_if test }
     ensures few { result ≤ 1 }
@@ -171,7 +172,8 @@ impl<R: Region + Drop, B: Block + Drop> Job<R, B> {
     /// whichever of them failed. It does nothing.
     pub fn stands(&self)
         // A job that has a block has its gate open whatever a crash leaves.
-        ensures opened { IsOpenFor (first_in self.now) (job_view R.seen B.seen B.number self.now).slots
+        ensures opened { IsOpenFor (first_in self.now)
+            (job_view R.seen B.seen B.number self.now).slots
             (job_view R.seen B.seen B.number self.now).place }
         // Its blocks differ from what they were only at the request's own positions.
         ensures outside_first { StaysOutside (job_view R.seen B.seen B.number self.now).span
