@@ -15,7 +15,7 @@ use Rattle.cfs_job.specs.declared.turn.Turn.{Turn}
 use Rattle.cfs_job.specs.declared.turn.Turn.TheVariants as turns
 use Rattle.cfs_job.specs.Stands.{IsDurable, IsOpen, IsOpenFor, IsSound, IsSpanOf, Keeps, ReadsAsNoted, StaysOutside, TileKeeps, are_touched, is_touched, is_touched_by}
 use Rattle.cfs_job.specs.Steps.{Flushes, Writes, is_unflushed, is_unwritten, next_turn, one_if, steps_left}
-use Rattle.cfs_job.specs.Views.{JobView, TileView, payload_seen}
+use Rattle.cfs_job.specs.Views.{JobView, TileView, anew_tile, payload_seen}
 use Rattle.cfs_job.proofs.KeepLemmas.{flush_keeps, write_keeps}
 
 -- ---- which turn it is, by the tests: a block is not written, or not flushed
@@ -279,3 +279,9 @@ opened_in seen number slots place (Some tile) h = h
 -- none is left
 pub none_unflushed : (a b c d : Bool) → (one_if a + one_if b) + (one_if c + one_if d) ≡ 0 → (one_if c ≡ 0) × (one_if d ≡ 0)
 none_unflushed a b c d e = (omega (arith, e), omega (arith, e))
+
+-- ---- a job that is taken apart
+
+pub given_anew : {B : Type 0} (seen : B → Seen BlockStep) (number : B → ℕ) (tile : Option (Tile B)) → tile_of seen number (lent_in tile) ≡ anew_tile (tile_in seen number tile)
+given_anew seen number None = refl
+given_anew seen number (Some tile) = refl

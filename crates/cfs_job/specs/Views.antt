@@ -1,5 +1,5 @@
 -- A job and its blocks as plain data.
-use Rattle.std.specs.Prelude.{ℕ, Bool, Option, List, [], ◌∷◌, map}
+use Rattle.std.specs.Prelude.{ℕ, Bool, false, Option, Some, None, List, [], ◌∷◌, map}
 use Rattle.cfs_file.specs.declared.request.Request.{Request}
 use Rattle.cfs_file.specs.declared.request.Request.TheVariants.{Sync}
 use Rattle.cfs_file.specs.declared.span.Span.{Span}
@@ -35,3 +35,12 @@ payload_seen (head ∷ tails) = payload_of (words_of head) (map words_of tails)
 abbrev pub request_seen : List (Seen WordStep) → Request
 request_seen [] = Sync
 request_seen (head ∷ tails) = request_of (words_of head) (map words_of tails)
+
+-- A job of the same slots and blocks that has made no step.
+
+abbrev pub anew_tile : Option TileView → Option TileView
+anew_tile None = None
+anew_tile (Some tile) = Some (record tile { taken = tile.seen; written = false; flushed = false })
+
+abbrev pub anew : JobView → JobView
+anew job = record job { first = anew_tile job.first; second = anew_tile job.second }

@@ -4,7 +4,7 @@ ghost use Rattle.cfs_slot.specs.Reads.{regions_of};
 ghost use Rattle.cfs_slot.specs.Regions.{place_of};
 ghost use Rattle.cfs_job.specs.Stands.{IsDurable, IsOpenFor, IsSound, IsSpanOf, ReadsAsNoted, StaysOutside, are_touched};
 ghost use Rattle.cfs_job.specs.Steps.{one_if};
-ghost use Rattle.cfs_job.specs.Views.{payload_seen};
+ghost use Rattle.cfs_job.specs.Views.{anew, payload_seen};
 ghost use Rattle.cfs_job.specs.Tiles.{tile_in, tile_of};
 
 use crate::lent::Lent;
@@ -158,6 +158,9 @@ impl<R: Region + Drop, B: Block + Drop> Job<R, B> {
         ensures request { result.0 ≡ request_in self }
         ensures first { result.1 ≡ first_in self }
         ensures second { result.2 ≡ second_in self }
+        // They are what a new job of them would be.
+        ensures view { view_of_parts R.seen B.seen B.number self.ino result.0 self.span result.1
+            result.2 ≡ anew (job_view R.seen B.seen B.number self) }
     {
         let Job {
             request,
