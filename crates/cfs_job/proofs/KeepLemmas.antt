@@ -20,7 +20,7 @@ use Rattle.cfs_job.proofs.PieceLemmas.{IsRoom, IsWithin, read_room, within}
 
 -- ---- the piece
 
-piece_size : (slots : List (Seen WordStep)) (s : Span) (at : ℕ) → IsSpanOf s slots → is_touched s at ≡ true → length (piece_in (payload_seen slots) s at) ≡ count_in s at
+pub piece_size : (slots : List (Seen WordStep)) (s : Span) (at : ℕ) → IsSpanOf s slots → is_touched s at ≡ true → length (piece_in (payload_seen slots) s at) ≡ count_in s at
 piece_size slots Nothing at spans touched = absurd (omega (arith, (within Nothing at touched).some))
 piece_size slots (Range from to) at spans touched =
     let r : IsRoom slots (Range from to) at from (count_in (Range from to) at) = read_room slots (Range from to) at from to refl spans touched in
@@ -68,7 +68,7 @@ ranged_twice taken mid from len all image h =
 
 -- ---- a write
 
-write_done : {T E : Type 0} {obeys_slots obeys_block keeps : Bool} {P : Content → Type 0} {devices : List ℕ} {asked_old asked_new : List Asked} {old new : Seen BlockStep}
+pub write_done : {T E : Type 0} {obeys_slots obeys_block keeps : Bool} {P : Content → Type 0} {devices : List ℕ} {asked_old asked_new : List Asked} {old new : Seen BlockStep}
     (slots : List (Seen WordStep)) (s : Span) (at : ℕ) (t : T) → WorksOn {T = T} {E = E} obeys_slots obeys_block keeps P devices (write_ops slots s at) (Ok t) asked_old old asked_new new
     → content_of new ≡ with_bytes (place_in s at) (piece_in (payload_seen slots) s at) (content_of old)
 write_done {T} {E} {obeys_slots} {obeys_block} {keeps} {P} {devices} {asked_old} {asked_new} {old} {new} slots s at t works =
@@ -102,7 +102,7 @@ write_keeps {T} {E} {obeys_slots} {obeys_block} {keeps} {slots} {s} {asked_old} 
 
 -- ---- a flush
 
-flush_leaves : {T E : Type 0} {obeys_block keeps : Bool} {P : Content → Type 0} {devices : List ℕ} {asked_old asked_new : List Asked} {old new : Seen BlockStep}
+pub flush_leaves : {T E : Type 0} {obeys_block keeps : Bool} {P : Content → Type 0} {devices : List ℕ} {asked_old asked_new : List Asked} {old new : Seen BlockStep}
     (result : Result T E) → WorksOn true obeys_block keeps P devices flush_ops result asked_old old asked_new new → content_of new ≡ content_of old
 flush_leaves (Ok t) works = ap (λ (b : Seen BlockStep). content_of b) works.ok
 flush_leaves {T} {E} {obeys_block} {keeps} {P} {devices} {asked_old} {asked_new} {old} {new} (Err e) works =

@@ -1,5 +1,6 @@
 pub mod CauseLemmas
 pub mod EntryLemmas
+pub mod EventLemmas
 pub mod JobLemmas
 pub mod KeepLemmas
 pub mod MadeLemmas
