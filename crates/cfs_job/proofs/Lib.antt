@@ -1,0 +1,11 @@
+pub mod CauseLemmas
+pub mod EntryLemmas
+pub mod EventLemmas
+pub mod JobLemmas
+pub mod KeepLemmas
+pub mod MadeLemmas
+pub mod NoteLemmas
+pub mod OpLemmas
+pub mod PieceLemmas
+pub mod SpanLemmas
+pub mod TileLemmas
