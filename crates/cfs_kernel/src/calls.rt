@@ -113,8 +113,8 @@ impl<R: Region + Drop> NsState<R> {
         ensures number { IfOk result (λ opened. opened.queue.number ≡ opened.grant.queue) }
         ensures whole { IfOk result (λ opened. out_slots opened.queue ≡ []) }
         ensures step { IfOk result (λ opened.
-            open_step (names_of self.old) caller flags (free_queue (names_of self.old).grants) looked
-            ≡ Some (granted opened.grant, names_of self.new)) }
+            open_step (names_of self.old) caller flags
+            (free_queue (names_of self.old).grants) looked ≡ Some (granted opened.grant, names_of self.new)) }
     {
         let opening = match looked {
             Ok(opening) => opening,
@@ -220,7 +220,8 @@ impl<R: Region + Drop> NsState<R> {
         })
     }
 
-    /// Removes the name of a file. Its record waits until its last grant is closed and it is purged.
+    /// Removes the name of a file. Its record waits until its last grant is closed and it is
+    /// purged.
     ///
     /// Refused as `unlink` is: by the words of the path with `Path`, and by the tree with `Tree`.
     pub fn unlink<P: Power>(

@@ -1,4 +1,4 @@
-//! The kernel's part: the stored tree of names, the grants with their queues, and the removed files.
+//! The kernel's part: the stored tree of names, the grants with their queues, the removed files.
 //!
 //! A request on names is tested against the tree as it stands. One that passes its tests takes the
 //! next place among them; where it changes the tree, the change is stored before it is made. All

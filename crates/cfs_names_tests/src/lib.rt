@@ -1,5 +1,5 @@
-//! The tests of cfs_names, in a crate of their own: with tests of its own that crate would be proved
-//! twice, with them and without.
+//! The tests of cfs_names, in a crate of their own: with tests of its own that crate would be
+//! proved twice, with them and without.
 #![tactic(auto)]
 
 #[cfg(test)]

@@ -1,4 +1,4 @@
--- What an open answers: the tests of its words, of its path and of what stands there, in their order.
+-- What an open answers: the tests of its words, of its path and of what is there, in their order.
 use Rattle.std.specs.Prelude.{ℕ, Bool, not, ◌&&◌, ◌||◌, List, Option, Some, Result, Ok, Err, if◌then◌else◌}
 use Rattle.cfs_cred.specs.declared.credential.Credential.{Credential}
 use Rattle.cfs_cred.specs.declared.want.Want.TheVariants.{Read, Write}
