@@ -51,12 +51,16 @@ fn blank_checkpoint(alloc: Global) -> Result<Checkpoint<MemRegion>, AllocError>
 }
 
 /// The stored tree of a root alone, with the permission bits 0o755, of user 10 and group 10. Its
-/// journal is on the devices 0 to 63, and its checkpoint on the devices 64 to 66.
+/// journal is on the devices 0 to 63, and its checkpoint on the devices 64 to 66. The first copy is
+/// selected, as in the image of a new store: it is the second to be stored.
 pub fn stored_tree(alloc: Global) -> Result<StoredTree<MemRegion>, AllocError> {
     let journal = blank_journal(alloc)?;
     let mut checkpoint = blank_checkpoint(alloc)?;
     let tree = Tree::with_root(alloc, 0o755, 10, 10)?;
     let mut meter = Meter::calm(alloc);
+    if checkpoint.store(&mut meter, &tree, 0).is_err() {
+        return Err(AllocError);
+    }
     if checkpoint.store(&mut meter, &tree, 0).is_err() {
         return Err(AllocError);
     }

@@ -195,6 +195,21 @@ fn rights_are_asked_once(rt: HostRuntime) -> Result<(), Fail> {
     begun(rt.alloc(), 64)?.play(&rt, RIGHTS)
 }
 
+const MOVES: &str = "\
+10 open:rwc /f at 1 grant 1 ino 2 rec 1 queue 0
+10 rename:/f /aaaaaaaaaaaaaaaaaaaaaaaaaaaaaaaaaaaaaaaaa ENAMETOOLONG
+10 rename:/f /n/x ENOENT after 1 requests
+10 rename:/f /f/x ENOTDIR after 1 requests
+10 rename:/f/x /g ENOTDIR after 1 requests
+10 mkdir:750 /d at 2 ino 3
+12 rename:/d/x /g EACCES after 2 requests
+10 mkdir:777 /e at 3 ino 4
+12 open:rwc /e/g at 4 grant 2 ino 5 rec 4 queue 1
+12 rename:/e/g /g EACCES after 4 requests
+12 rename:/e/g /e/h at 5
+12 rename:/e/h /e EISDIR after 5 requests
+";
+
 const REFUSALS: &str = "\
 10 mkdir:755 /d at 1 ino 2
 10 mkdir:755 /d/e at 2 ino 3
@@ -233,7 +248,8 @@ const REFUSALS: &str = "\
 
 #[test]
 fn refusals_take_no_place(rt: HostRuntime) -> Result<(), Fail> {
-    begun(rt.alloc(), 64)?.play(&rt, REFUSALS)
+    begun(rt.alloc(), 64)?.play(&rt, REFUSALS)?;
+    begun(rt.alloc(), 64)?.play(&rt, MOVES)
 }
 
 const ONE_QUEUE: &str = "\
@@ -369,6 +385,36 @@ fn failed_requests_take_no_place(rt: HostRuntime) -> Result<(), Fail> {
 ",
             )?;
         }
+    }
+    Ok(())
+}
+
+/// The word at the front of a region; 0 without a region.
+fn first_word(region: Option<&MemRegion>) -> u64 {
+    match region {
+        Some(region) => region.words().first().copied().unwrap_or(0),
+        None => 0,
+    }
+}
+
+/// Of seventy changes the first 64 are in a checkpoint, in the second copy of the table.
+#[test]
+fn seventy_directories(rt: HostRuntime) -> Result<(), Fail> {
+    let mut bench = begun(rt.alloc(), 1)?;
+    for number in 0..70u64 {
+        let path = format!(in rt.alloc(); "/n{number}")?;
+        let told = bench.make_dir(10, "755", path.as_str())?;
+        let (place, ino) = (number + 1, number + 2);
+        let want = format!(in rt.alloc(); "at {place} ino {ino}")?;
+        assert_eq!(rt; told.as_str(), want.as_str());
+    }
+    let (stored, _home) = bench.state.into_parts();
+    let (_tree, journal, checkpoint) = stored.into_parts();
+    let (selector, _tables) = checkpoint.into_parts();
+    let records = journal.into_parts();
+    assert_eq!(rt; first_word(Some(&selector)), 129);
+    for (place, gate) in [(0, 65), (1, 66), (2, 67), (3, 68), (4, 69), (5, 70), (6, 7)] {
+        assert_eq!(rt; first_word(records.get(place)), gate);
     }
     Ok(())
 }

@@ -250,14 +250,14 @@ fn selector_and_gates(left: &Left) -> [u64; 8] {
     ]
 }
 
-// The first checkpoint is in the second copy, with the word 1, and so the one of 64 changes is in
-// the first copy, with the word 128.
+// The table of the root alone is in the first copy, with the word 0, and so that of 64 changes is in
+// the second copy, with the word 129.
 #[test]
 fn seventy_changes_take_a_checkpoint(rt: HostRuntime) -> Result<(), Fail> {
     let mut meter = Meter::calm(rt.alloc());
     let stored = begun_with(rt.alloc(), &mut meter, 70)?;
     let left = after_crash(stored, 0);
-    assert_eq!(rt; selector_and_gates(&left), [128, 65, 66, 67, 68, 69, 70, 7]);
+    assert_eq!(rt; selector_and_gates(&left), [129, 65, 66, 67, 68, 69, 70, 7]);
     assert_eq!(rt; count_left(&left), 70);
     Ok(())
 }
@@ -278,20 +278,20 @@ fn left_by_last(alloc: Global, n: u64, k: u64) -> Result<(bool, u64, u32), Fail>
 #[test]
 fn a_stop_in_a_checkpoint_leaves_all_before(rt: HostRuntime) -> Result<(), Fail> {
     for (n, k, word, count) in [
-        (1, 0, 1, 64),
-        (1, 1, 1, 64),
-        (3073, 1, 1, 64),
-        (3074, 1, 1, 64),
-        (3075, 0, 1, 64),
-        (3075, 1, 1, 64),
-        (3076, 0, 1, 64),
-        (3076, 1, 128, 64),
-        (3077, 0, 128, 64),
-        (3077, 1, 128, 64),
-        (3093, 1, 128, 64),
-        (3094, 0, 128, 64),
-        (3094, 1, 128, 65),
-        (3095, 0, 128, 65),
+        (1, 0, 0, 64),
+        (1, 1, 0, 64),
+        (3073, 1, 0, 64),
+        (3074, 1, 0, 64),
+        (3075, 0, 0, 64),
+        (3075, 1, 0, 64),
+        (3076, 0, 0, 64),
+        (3076, 1, 129, 64),
+        (3077, 0, 129, 64),
+        (3077, 1, 129, 64),
+        (3093, 1, 129, 64),
+        (3094, 0, 129, 64),
+        (3094, 1, 129, 65),
+        (3095, 0, 129, 65),
     ] {
         let given = left_by_last(rt.alloc(), n, k)?;
         assert_eq!(rt; given, (n > 3094, word, count), "stop {n}, pick {k}");

@@ -14,7 +14,7 @@ pub new-requires-clause-behind : goal.new-requires-clause-behind
 new-requires-clause-behind c =
     let journal = c.in_ok-journal.journal in
     behind_fresh [] 0 0 (through_of journal) (changes_of journal) refl c.in_ok-journal.ensures.through c.in_ok-journal.ensures.changes
-    (on_ok c.store.result (sym c.is_err.ensures.value ∙ c.if-is_err.false) c.store.ensures.stored)
+    (on_ok c.store-2.result (sym c.is_err-2.ensures.value ∙ c.if-is_err-2.false) c.store-2.ensures.stored)
 
 pub new-requires-clause-distinct : goal.new-requires-clause-distinct
 new-requires-clause-distinct c =
@@ -22,4 +22,4 @@ new-requires-clause-distinct c =
     let records : List (Seen WordStep) = map (λ (r : MemRegion). r.seen) (regions_of c.in_ok-journal.journal) in
     let before : AreDistinct (all_devices (tables ++ records)) =
     subst (λ rs. AreDistinct (all_devices (tables ++ rs))) (sym c.in_ok-journal.ensures.regions) c.in_ok-checkpoint.ensures in
-    apart_tables records before c.store.ensures.moments
+    apart_tables records (apart_tables records before c.store.ensures.moments) c.store-2.ensures.moments
