@@ -1,7 +1,7 @@
 -- Queues whose slots are all free.
-use Rattle.std.proofs.Common.{ℕ, zero, suc, ◌+◌, ◌≡◌, ◌∙◌, ◌⊎◌, List, [], ◌∷◌, ◌++◌, length, map, Option, Some, None, inl, inr, refl, sym, ap, subst}
+use Rattle.std.proofs.Common.{ℕ, zero, suc, ◌+◌, ◌≡◌, ◌∙◌, ◌⊎◌, List, [], ◌∷◌, ◌++◌, length, map, Option, Some, inl, inr, refl, sym, ap}
 use Rattle.std.proofs.lemmas.List.{length-map, map-append}
-use Rattle.cfs_queue.specs.Queue.{Held, Slots, free, out_from, out_slots}
+use Rattle.cfs_queue.specs.Queue.{Slots, free, out_from, out_slots}
 use Rattle.cfs_kernel.specs.Queues.{AreWhole, home_at}
 
 pub none_out : {X : Type 0} (first : ℕ) (slots : List X) → out_from first (map (λ slot. free slot) slots) ≡ []

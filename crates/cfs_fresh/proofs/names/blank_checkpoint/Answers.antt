@@ -1,7 +1,7 @@
-use Rattle.std.proofs.Common.{ℕ, ◌≡◌, ◌∙◌, ◌∷◌, [], List, ap, length, map, refl}
+use Rattle.std.proofs.Common.{ℕ, ◌∙◌, ◌∷◌, List, ap, map, refl}
 use Rattle.std.proofs.lemmas.List.{length-replicate}
 use Rattle.cfs_pmem.specs.declared.mem_region.MemRegion.{MemRegion}
-use Rattle.cfs_fresh.proofs.Blanks.{are_beside, are_fresh, regions, three}
+use Rattle.cfs_fresh.proofs.Blanks.{are_beside, are_fresh, regions}
 use Rattle.cfs_fresh.proofs.names.blank_checkpoint.Goals as goal
 
 pub blank-requires : goal.blank-requires

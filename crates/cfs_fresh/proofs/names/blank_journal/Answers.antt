@@ -1,4 +1,4 @@
-use Rattle.std.proofs.Common.{◌≡◌, ◌∙◌, ◌∷◌, [], List, map, ℕ, ap, arith, subst, sym}
+use Rattle.std.proofs.Common.{◌≡◌, ◌∙◌, ◌∷◌, [], List, map, ap, arith, subst, sym}
 use Rattle.std.proofs.lemmas.List.{map-append}
 use Rattle.cfs_pmem.specs.declared.mem_region.MemRegion.{MemRegion}
 use Rattle.cfs_pmem.specs.Images.{Seen, WordStep}

@@ -1,4 +1,4 @@
-use Rattle.std.proofs.Common.{◌≡◌, ◌∙◌, ◌++◌, List, [], map, refl, subst, sym}
+use Rattle.std.proofs.Common.{◌∙◌, ◌++◌, List, [], map, refl, subst, sym}
 use Rattle.cfs_pmem.specs.declared.mem_region.MemRegion.{MemRegion}
 use Rattle.cfs_pmem.specs.AllMoments.{AreDistinct}
 use Rattle.cfs_pmem.specs.Images.{Seen, WordStep}
