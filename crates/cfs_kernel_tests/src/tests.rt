@@ -397,24 +397,45 @@ fn first_word(region: Option<&MemRegion>) -> u64 {
     }
 }
 
+/// Makes seventy directories; how many of the answers are as wanted.
+fn make_seventy(bench: &mut Bench) -> Result<u64, Fail> {
+    let alloc = bench.alloc;
+    let mut right = 0u64;
+    for number in 0..70u64 {
+        let path = format!(in alloc; "/n{number}")?;
+        let told = bench.make_dir(10, "755", path.as_str())?;
+        let want = format!(in alloc; "at {} ino {}", number + 1, number + 2)?;
+        if told == want {
+            right = right.saturating_add(1);
+        }
+    }
+    Ok(right)
+}
+
+/// The selector's word, and the gates of the first seven records of the journal.
+fn words_left(state: NsState<MemRegion>) -> [u64; 8] {
+    let (stored, _home) = state.into_parts();
+    let (_tree, journal, checkpoint) = stored.into_parts();
+    let (selector, _tables) = checkpoint.into_parts();
+    let records = journal.into_parts();
+    let gate = |place: usize| first_word(records.get(place));
+    [
+        first_word(Some(&selector)),
+        gate(0),
+        gate(1),
+        gate(2),
+        gate(3),
+        gate(4),
+        gate(5),
+        gate(6),
+    ]
+}
+
 /// Of seventy changes the first 64 are in a checkpoint, in the second copy of the table.
 #[test]
 fn seventy_directories(rt: HostRuntime) -> Result<(), Fail> {
     let mut bench = begun(rt.alloc(), 1)?;
-    for number in 0..70u64 {
-        let path = format!(in rt.alloc(); "/n{number}")?;
-        let told = bench.make_dir(10, "755", path.as_str())?;
-        let (place, ino) = (number + 1, number + 2);
-        let want = format!(in rt.alloc(); "at {place} ino {ino}")?;
-        assert_eq!(rt; told.as_str(), want.as_str());
-    }
-    let (stored, _home) = bench.state.into_parts();
-    let (_tree, journal, checkpoint) = stored.into_parts();
-    let (selector, _tables) = checkpoint.into_parts();
-    let records = journal.into_parts();
-    assert_eq!(rt; first_word(Some(&selector)), 129);
-    for (place, gate) in [(0, 65), (1, 66), (2, 67), (3, 68), (4, 69), (5, 70), (6, 7)] {
-        assert_eq!(rt; first_word(records.get(place)), gate);
-    }
+    assert_eq!(rt; make_seventy(&mut bench)?, 70);
+    assert_eq!(rt; words_left(bench.state), [129, 65, 66, 67, 68, 69, 70, 7]);
     Ok(())
 }
