@@ -1,0 +1,11 @@
+pub mod Drive
+pub mod Steps
+pub mod NameSteps
+pub mod World
+pub mod Ways
+pub mod Inode
+pub mod Names
+pub mod Files
+pub mod Workers
+pub mod Mounting
+pub mod Play
