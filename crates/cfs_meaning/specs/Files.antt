@@ -258,7 +258,7 @@ pub data Defers (ino place : ℕ) (way : Way (List ℕ)) (move : World → World
       Defers ino place way move old (Ok bytes) (move new)
   defers : {old new : World} {q : ℕ} → way old (Err (Waits q)) new →
       Defers ino place way move old (Err (Says (PendingRead ino place q))) (move new)
-  fails : {old new : World} → way old (Err Fault) new →
+  faults : {old new : World} → way old (Err Fault) new →
       Defers ino place way move old (Err Fault) new
 
 -- the position behind the bytes of a place

@@ -9,3 +9,4 @@ pub mod Files
 pub mod Workers
 pub mod Mounting
 pub mod Play
+pub mod Laws

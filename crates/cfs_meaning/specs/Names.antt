@@ -16,7 +16,7 @@ use Rattle.cfs_print.specs.declared.printed.Printed.{Printed}
 use Rattle.cfs_print.specs.declared.printed.Printed.TheVariants.{Made, Named, NoNumber, NoQueue, NoRecord, Opened, Refused, RefusedAt}
 use Rattle.cfs_meaning.specs.Drive.{words_at}
 use Rattle.cfs_meaning.specs.Steps.{appended, on_tables, record_closed, selector}
-use Rattle.cfs_meaning.specs.NameSteps.{changes_of, refusal_of, step_of, tree_of}
+use Rattle.cfs_meaning.specs.NameSteps.{Order, changes_of, refusal_of, step_of, tree_of}
 use Rattle.cfs_meaning.specs.World.{Caller, Descriptor, File, Names, World, caller_in, credential_in, is_in_tree, is_open, is_used, new_file, open_of, with_descriptors, with_names}
 use Rattle.cfs_meaning.specs.Inode.{purge}
 use Rattle.cfs_meaning.specs.Ways.{Changes, Now, Shrugs, Tries, Way, done, each, give, known, never, only_if, steps, unless_fault, when, ◌>>=◌, ◌>>◌}
@@ -75,9 +75,8 @@ store_change change = do
 abbrev pub free_record : World → Option ℕ
 free_record world = find (λ rec. not (is_used world rec)) (range_with_len 0 256)
 
-abbrev pub step_in : World → ℕ → NameRequest → Step
-step_in world c request =
-    step_of (length world.queues) world.names.now c request (free_record world)
+abbrev pub step_in : World → ℕ → NameRequest → Option ℕ → Step
+step_in world c request rec = step_of (length world.queues) world.names.now c request rec
 
 -- how many requests on names there were
 abbrev pub name_count : World → ℕ
@@ -99,20 +98,14 @@ files_made (changes.Create node) =
 files_made other = []
 
 -- the request is logged, and the tree and the grants are as its step leaves them
-abbrev pub log_step : ℕ → ℕ → NameRequest → NameAnswer × names.Names → World → World
-log_step c line request step world = record world {
+abbrev pub log_step : ℕ → ℕ → NameRequest → Option ℕ → NameAnswer × Order → World → World
+log_step c line request rec step world = record world {
   names = record world.names {
-    log = world.names.log ++ record {
-      caller = c;
-      line = line;
-      request = request;
-      rec = free_record world;
-      answer = step.0;
-    } ∷ [];
+    log = world.names.log
+        ++ record { caller = c; line = line; request = request; rec = rec; answer = step.0 } ∷ [];
     now = step.1;
   };
-  files = world.files
-      ++ flat_map files_made (changes_of world.names.now request (free_record world));
+  files = world.files ++ flat_map files_made (changes_of world.names.now request rec);
 }
 
 -- A request on names has its step, or is refused. What it changes of the tree is stored first.
@@ -120,10 +113,10 @@ abbrev pub ask : ℕ → ℕ → NameRequest → Way NameAnswer
 ask c line request = do
   world ← Now
   let rec = free_record world
-  step ← known (step_in world c request)
+  step ← known (step_in world c request rec)
     (refusal_answer world (refusal_of world.names.now request rec))
   each (changes_of world.names.now request rec) store_change
-  Changes (log_step c line request step)
+  Changes (log_step c line request rec step)
   give step.0
 
 -- ---- open

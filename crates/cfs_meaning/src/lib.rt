@@ -2,6 +2,7 @@
 #![tactic(auto)]
 
 ghost use Rattle.std.specs.Prelude.{◌≡◌, true};
+ghost use Rattle.cfs_meaning.specs.Laws.{CoresStayReached};
 
 /// Nothing yet.
 pub fn nothing() -> bool

@@ -1,0 +1,208 @@
+-- The lines of callers on files keep each law.
+use Rattle.std.proofs.Common.{◌≡◌, ℕ, Bool, true, false, Option, Some, None, List, [], ◌∷◌, refl}
+use Rattle.std.specs.Prelude.{Result, Ok, Err}
+use Rattle.cfs_file.specs.declared.request.Request.{Request}
+use Rattle.cfs_print.specs.declared.printed.Printed.{Printed}
+use Rattle.cfs_words.specs.declared.seek.Seek.{Seek}
+use Rattle.cfs_meaning.specs.NameSteps.{closing}
+use Rattle.cfs_meaning.specs.World.{Descriptor, World, core_in}
+use Rattle.cfs_meaning.specs.Inode.{Absent, Behind, Ready, Verdict, serve_verdict}
+use Rattle.cfs_meaning.specs.Ways.{Halt, Waits, Way, known}
+use Rattle.cfs_meaning.specs.Files.{Defers, Helps, admit_write, append, clear_way, close, collect, collected, defers, fails, fails_first, faults, find_room, ftruncate, help_lowest, help_some, helps_first, in_the_way, is_behind, is_out_itself, list_queue, lseek, make_room, opened, opened_to_read, opened_to_write, post, pwrite, read_or_sync, room_or_full, say_served, say_wrote, serve_helped, serve_posted, serves, skips, stage_and_admit, works, works_on, write}
+use Rattle.cfs_meaning.proofs.Keeping.{Any, EndsAs, IsQuiet, Keeps, keep-changes, keep-choose, keep-each, keep-end, keep-give, keep-known, keep-look, keep-mends, keep-refuse, keep-repeats, keep-say, keep-steps, keep-then, keep-when}
+use Rattle.cfs_meaning.proofs.KeptInode.{kept-admit, kept-drop, kept-job, kept-read, kept-serve, kept-settle, kept-skip}
+use Rattle.cfs_meaning.proofs.KeptNames.{kept-ask-purge}
+use Rattle.cfs_meaning.proofs.Laws.{Law}
+use Rattle.cfs_meaning.proofs.Quiet.{quiet-by, quiet-descriptors, quiet-move, quiet-queue}
+
+-- ---- helping
+
+helps-by : (law : Law) {ino place : ℕ} (old : World) (end : Result (Unit {0}) Halt) (new : World) →
+    law.base.Holds old → Helps ino place old end new → EndsAs law.base Any end × law.base.Holds new
+helps-by law {ino} {place} old end new holds (skips is way) =
+    (kept-skip law ino place).by _ _ _ holds way
+helps-by law {ino} {place} old end new holds (is_out_itself is) = (law.base.waits place, holds)
+helps-by law old end new holds (is_behind {q = q} is stuck) = (law.base.waits q, holds)
+helps-by law old end new holds (helps_first is free first rest) =
+    helps-by law _ _ _ (helps-by law _ _ _ holds first).1 rest
+helps-by law old end new holds (fails_first is free first) = helps-by law _ _ _ holds first
+helps-by law {ino} {place} old end new holds (works is job) =
+    (tt, ((kept-job law ino place).by _ _ _ holds job).1)
+helps-by law {ino} {place} old end new holds (works_on is job rest) =
+    helps-by law _ _ _ ((kept-job law ino place).by _ _ _ holds job).1 rest
+helps-by law {ino} {place} old end new holds (fails is job) =
+    (kept-job law ino place).by _ _ _ holds job
+
+pub kept-help : (law : Law) (ino place : ℕ) → Keeps law.base Any (Helps ino place)
+kept-help law ino place = record { by = helps-by law }
+
+-- ---- slots
+
+kept-collect : (law : Law) (q : ℕ) → Keeps law.base Any (collect q)
+kept-collect law q = keep-changes (quiet-queue q collected)
+
+kept-some : (law : Law) (ino : ℕ) (place : Option ℕ) → Keeps law.base Any (help_some ino place)
+kept-some law ino None = keep-give tt
+kept-some law ino (Some place) = keep-then (kept-help law ino place) (λ u a. keep-give tt)
+
+kept-lowest : (law : Law) (d : Descriptor) → Keeps law.base Any (help_lowest d)
+kept-lowest law d = keep-look (λ w. kept-some law d.grant.ino _)
+
+kept-make-room : (law : Law) (d : Descriptor) (count : ℕ) → Keeps law.base Any (make_room d count)
+kept-make-room law d count =
+    keep-then (kept-collect law d.grant.queue) (λ u a.
+    keep-look (λ w.
+    keep-choose _ (keep-give tt)
+    (keep-choose _ (keep-then (kept-settle law d.grant.ino) (λ u a. keep-give tt))
+    (kept-lowest law d))))
+
+pub kept-room : (law : Law) (d : Descriptor) (count : ℕ) → Keeps law.base Any (find_room d count)
+kept-room law d count =
+    keep-then (keep-repeats (kept-make-room law d count)) (λ u a. keep-give tt)
+
+pub kept-full : (law : Law) (d : Descriptor) (count : ℕ) → Keeps law.base Any (room_or_full d count)
+kept-full law d count =
+    keep-then (kept-collect law d.grant.queue) (λ u a. keep-look (λ w. keep-refuse _ _))
+
+-- ---- descriptors
+
+-- a value that is there, whatever it is
+keep-there : (law : Law) {A : Type 0} (option : Option A) (answer : Printed) →
+    Keeps law.base Any (known option answer)
+keep-there law None answer = keep-say
+keep-there law (Some a) answer = keep-give tt
+
+pub kept-opened : (law : Law) (c fd : ℕ) → Keeps law.base Any (opened c fd)
+kept-opened law c fd = keep-look (λ w. keep-there law _ _)
+
+pub kept-to-read : (law : Law) (c fd : ℕ) → Keeps law.base Any (opened_to_read c fd)
+kept-to-read law c fd =
+    keep-then (kept-opened law c fd) (λ d a.
+    keep-then (keep-refuse _ _) (λ u a. keep-give tt))
+
+pub kept-to-write : (law : Law) (c fd : ℕ) → Keeps law.base Any (opened_to_write c fd)
+kept-to-write law c fd =
+    keep-then (kept-opened law c fd) (λ d a.
+    keep-then (keep-refuse _ _) (λ u a. keep-give tt))
+
+-- ---- writes
+
+kept-stage : (law : Law) (d : Descriptor) (c : ℕ) (request : Request) →
+    Keeps law.base Any (stage_and_admit d c law.line request)
+kept-stage law d c request =
+    keep-look (λ w.
+    keep-then keep-steps (λ u a.
+    keep-look (λ here.
+    keep-then (keep-refuse _ _) (λ u a.
+    keep-then (keep-refuse _ _) (λ u a.
+    keep-then (keep-each _ (λ b. keep-steps)) (λ u a.
+    kept-admit law d c request _))))))
+
+kept-write-in : (law : Law) (d : Descriptor) (c : ℕ) (request : Request) (moves : Bool) →
+    Keeps law.base Any (admit_write d c law.line request moves)
+kept-write-in law d c request moves =
+    keep-then (kept-stage law d c request) (λ place a.
+    keep-then (keep-when moves (keep-changes (λ w. quiet-move c d.fd _ w))) (λ u a.
+    keep-look (λ w. keep-give tt)))
+
+pub kept-pwrite : (law : Law) (d : Descriptor) (c offset : ℕ) (bytes : List ℕ)
+    (finds : Descriptor → ℕ → Way (Unit {0})) (moves : Bool) →
+    ((count : ℕ) → Keeps law.base Any (finds d count)) →
+    Keeps law.base Any (pwrite d c law.line offset bytes finds moves)
+kept-pwrite law d c offset bytes finds moves kept =
+    keep-then (keep-refuse _ _) (λ u a.
+    keep-then (keep-refuse _ _) (λ u a.
+    keep-then (kept _) (λ u a. kept-write-in law d c _ moves)))
+
+kept-append : (law : Law) (d : Descriptor) (c : ℕ) (bytes : List ℕ) →
+    Keeps law.base Any (append d c law.line bytes)
+kept-append law d c bytes =
+    keep-then (keep-refuse _ _) (λ u a.
+    keep-then (kept-room law d _) (λ u a. kept-write-in law d c _ true))
+
+pub kept-write : (law : Law) (d : Descriptor) (c : ℕ) (bytes : List ℕ) →
+    Keeps law.base Any (write d c law.line bytes)
+kept-write law d c bytes =
+    keep-choose d.appends (kept-append law d c bytes)
+    (kept-pwrite law d c d.position bytes find_room true (kept-room law d))
+
+pub kept-truncate : (law : Law) (d : Descriptor) (c n : ℕ) →
+    Keeps law.base Any (ftruncate d c law.line n)
+kept-truncate law d c n =
+    keep-then (keep-refuse _ _) (λ u a.
+    keep-then (kept-room law d 1) (λ u a.
+    keep-then (kept-stage law d c _) (λ place a. keep-give tt)))
+
+-- ---- reads
+
+kept-way : (law : Law) (ino place : ℕ) (verdict : Verdict) (w : World) →
+    Keeps law.base Any (in_the_way ino place verdict w)
+kept-way law ino place (Behind q) w =
+    keep-choose _ (keep-end (law.base.waits q))
+    (keep-then (kept-help law ino q) (λ u a. keep-give tt))
+kept-way law ino place Absent w = keep-give tt
+kept-way law ino place Ready w = keep-give tt
+
+kept-clear : (law : Law) (ino place : ℕ) → Keeps law.base Any (clear_way ino place)
+kept-clear law ino place = keep-look (λ w. kept-way law ino place (serve_verdict (core_in w ino) place) w)
+
+pub kept-served : (law : Law) (ino place : ℕ) → Keeps law.base Any (serve_helped ino place)
+kept-served law ino place =
+    keep-mends (keep-then (keep-repeats (kept-clear law ino place)) (λ u a.
+    kept-serve law ino place)) (kept-drop law ino place)
+
+defers-by : (law : Law) {ino place : ℕ} {way : Way (List ℕ)} {move : World → World} →
+    Keeps law.base Any way → ((w : World) → IsQuiet w (move w)) →
+    (old : World) (end : Result (List ℕ) Halt) (new : World) → law.base.Holds old →
+    Defers ino place way move old end new → EndsAs law.base Any end × law.base.Holds new
+defers-by law {move} kept quiet old end new holds (serves {new = mid} {bytes = bytes} done) =
+    (tt, law.base.quiet mid (move mid) (quiet mid) (kept.by old (Ok bytes) mid holds done).1)
+defers-by law {move} kept quiet old end new holds (defers {new = mid} {q = q} waits) =
+    (
+      law.base.says _,
+      law.base.quiet mid (move mid) (quiet mid) (kept.by old (Err (Waits q)) mid holds waits).1,
+    )
+defers-by law kept quiet old end new holds (faults fault) = kept.by _ _ _ holds fault
+
+pub kept-read-or-sync : (law : Law) (d : Descriptor) (c : ℕ) (request : Request) (moves : Bool) →
+    Keeps law.base Any (read_or_sync d c law.line request moves)
+kept-read-or-sync law d c request moves =
+    keep-then (kept-read law d c request) (λ place a.
+    keep-then (record {
+      by = defers-by law (kept-served law d.grant.ino place) (quiet-by c d moves place);
+    }) (λ bytes a. keep-look (λ w. keep-give tt)))
+
+pub kept-post : (law : Law) (d : Descriptor) (c : ℕ) (request : Request) →
+    Keeps law.base Any (post d c law.line request)
+kept-post law d c request =
+    keep-then (kept-read law d c request) (λ place a. keep-give tt)
+
+pub kept-posted : (law : Law) (d : Descriptor) (place : ℕ) →
+    Keeps law.base Any (serve_posted d place)
+kept-posted law d place =
+    keep-look (λ w.
+    keep-then (keep-refuse _ _) (λ u a.
+    keep-then (kept-served law d.grant.ino place) (λ bytes a. keep-look (λ w. keep-give tt))))
+
+-- ---- seek, queue, close
+
+pub kept-seek : (law : Law) (d : Descriptor) (c : ℕ) (seek : Seek) →
+    Keeps law.base Any (lseek d c seek)
+kept-seek law d c seek =
+    keep-then (keep-there law _ _) (λ to a.
+    keep-then (keep-refuse _ _) (λ u a.
+    keep-then (keep-changes (quiet-move c d.fd to)) (λ u a. keep-give tt)))
+
+pub kept-listed : (law : Law) (d : Descriptor) → Keeps law.base Any (list_queue d)
+kept-listed law d = keep-look (λ w. keep-give tt)
+
+pub kept-close-fd : (law : Law) (d : Descriptor) (c : ℕ) →
+    Keeps law.base Any (close d c law.line)
+kept-close-fd law d c =
+    keep-look (λ w.
+    keep-then (keep-each _ (kept-drop law d.grant.ino)) (λ u a.
+    keep-then (keep-when _ (kept-settle law d.grant.ino)) (λ u a.
+    keep-then (keep-repeats (kept-lowest law d)) (λ u a.
+    keep-then (kept-collect law d.grant.queue) (λ u a.
+    keep-then (keep-changes (quiet-descriptors c _)) (λ u a.
+    kept-ask-purge law c (closing d.grant)))))))
