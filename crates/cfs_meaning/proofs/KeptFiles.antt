@@ -1,8 +1,11 @@
 -- The lines of callers on files keep each law.
 use Rattle.std.proofs.Common.{◌≡◌, ℕ, Bool, true, false, Option, Some, None, List, [], ◌∷◌, refl}
-use Rattle.std.specs.Prelude.{Result, Ok, Err}
+use Rattle.std.specs.Prelude.{Result, Ok, Err, if◌then◌else◌}
 use Rattle.cfs_file.specs.declared.request.Request.{Request}
 use Rattle.cfs_print.specs.declared.printed.Printed.{Printed}
+use Rattle.cfs_print.specs.declared.printed.Printed.TheVariants.{Got, Placed}
+use Rattle.cfs_core.specs.May.{is_sync_at}
+use Rattle.cfs_meaning.specs.Laws.{IsGiven}
 use Rattle.cfs_words.specs.declared.seek.Seek.{Seek}
 use Rattle.cfs_meaning.specs.NameSteps.{closing}
 use Rattle.cfs_meaning.specs.World.{Descriptor, World, core_in}
@@ -62,28 +65,28 @@ kept-room law d count =
 
 pub kept-full : (law : Law) (d : Descriptor) (count : ℕ) → Keeps law.base Any (room_or_full d count)
 kept-full law d count =
-    keep-then (kept-collect law d.grant.queue) (λ u a. keep-look (λ w. keep-refuse _ _))
+    keep-then (kept-collect law d.grant.queue) (λ u a. keep-look (λ w. keep-refuse _ _ tt))
 
 -- ---- descriptors
 
 -- a value that is there, whatever it is
 keep-there : (law : Law) {A : Type 0} (option : Option A) (answer : Printed) →
-    Keeps law.base Any (known option answer)
-keep-there law None answer = keep-say
-keep-there law (Some a) answer = keep-give tt
+    IsGiven answer → Keeps law.base Any (known option answer)
+keep-there law None answer given = keep-say given
+keep-there law (Some a) answer given = keep-give tt
 
 pub kept-opened : (law : Law) (c fd : ℕ) → Keeps law.base Any (opened c fd)
-kept-opened law c fd = keep-look (λ w. keep-there law _ _)
+kept-opened law c fd = keep-look (λ w. keep-there law _ _ tt)
 
 pub kept-to-read : (law : Law) (c fd : ℕ) → Keeps law.base Any (opened_to_read c fd)
 kept-to-read law c fd =
     keep-then (kept-opened law c fd) (λ d a.
-    keep-then (keep-refuse _ _) (λ u a. keep-give tt))
+    keep-then (keep-refuse _ _ tt) (λ u a. keep-give tt))
 
 pub kept-to-write : (law : Law) (c fd : ℕ) → Keeps law.base Any (opened_to_write c fd)
 kept-to-write law c fd =
     keep-then (kept-opened law c fd) (λ d a.
-    keep-then (keep-refuse _ _) (λ u a. keep-give tt))
+    keep-then (keep-refuse _ _ tt) (λ u a. keep-give tt))
 
 -- ---- writes
 
@@ -93,13 +96,13 @@ kept-stage law d c request =
     keep-look (λ w.
     keep-then keep-steps (λ u a.
     keep-look (λ here.
-    keep-then (keep-refuse _ _) (λ u a.
-    keep-then (keep-refuse _ _) (λ u a.
+    keep-then (keep-refuse _ _ tt) (λ u a.
+    keep-then (keep-refuse _ _ tt) (λ u a.
     keep-then (keep-each _ (λ b. keep-steps)) (λ u a.
     kept-admit law d c request _))))))
 
 kept-write-in : (law : Law) (d : Descriptor) (c : ℕ) (request : Request) (moves : Bool) →
-    Keeps law.base Any (admit_write d c law.line request moves)
+    Keeps law.base IsGiven (admit_write d c law.line request moves)
 kept-write-in law d c request moves =
     keep-then (kept-stage law d c request) (λ place a.
     keep-then (keep-when moves (keep-changes (λ w. quiet-move c d.fd _ w))) (λ u a.
@@ -108,28 +111,28 @@ kept-write-in law d c request moves =
 pub kept-pwrite : (law : Law) (d : Descriptor) (c offset : ℕ) (bytes : List ℕ)
     (finds : Descriptor → ℕ → Way (Unit {0})) (moves : Bool) →
     ((count : ℕ) → Keeps law.base Any (finds d count)) →
-    Keeps law.base Any (pwrite d c law.line offset bytes finds moves)
+    Keeps law.base IsGiven (pwrite d c law.line offset bytes finds moves)
 kept-pwrite law d c offset bytes finds moves kept =
-    keep-then (keep-refuse _ _) (λ u a.
-    keep-then (keep-refuse _ _) (λ u a.
+    keep-then (keep-refuse _ _ tt) (λ u a.
+    keep-then (keep-refuse _ _ tt) (λ u a.
     keep-then (kept _) (λ u a. kept-write-in law d c _ moves)))
 
 kept-append : (law : Law) (d : Descriptor) (c : ℕ) (bytes : List ℕ) →
-    Keeps law.base Any (append d c law.line bytes)
+    Keeps law.base IsGiven (append d c law.line bytes)
 kept-append law d c bytes =
-    keep-then (keep-refuse _ _) (λ u a.
+    keep-then (keep-refuse _ _ tt) (λ u a.
     keep-then (kept-room law d _) (λ u a. kept-write-in law d c _ true))
 
 pub kept-write : (law : Law) (d : Descriptor) (c : ℕ) (bytes : List ℕ) →
-    Keeps law.base Any (write d c law.line bytes)
+    Keeps law.base IsGiven (write d c law.line bytes)
 kept-write law d c bytes =
     keep-choose d.appends (kept-append law d c bytes)
     (kept-pwrite law d c d.position bytes find_room true (kept-room law d))
 
 pub kept-truncate : (law : Law) (d : Descriptor) (c n : ℕ) →
-    Keeps law.base Any (ftruncate d c law.line n)
+    Keeps law.base IsGiven (ftruncate d c law.line n)
 kept-truncate law d c n =
-    keep-then (keep-refuse _ _) (λ u a.
+    keep-then (keep-refuse _ _ tt) (λ u a.
     keep-then (kept-room law d 1) (λ u a.
     keep-then (kept-stage law d c _) (λ place a. keep-give tt)))
 
@@ -159,45 +162,54 @@ defers-by law {move} kept quiet old end new holds (serves {new = mid} {bytes = b
     (tt, law.base.quiet mid (move mid) (quiet mid) (kept.by old (Ok bytes) mid holds done).1)
 defers-by law {move} kept quiet old end new holds (defers {new = mid} {q = q} waits) =
     (
-      law.base.says _,
+      law.base.says _ tt,
       law.base.quiet mid (move mid) (quiet mid) (kept.by old (Err (Waits q)) mid holds waits).1,
     )
 defers-by law kept quiet old end new holds (faults fault) = kept.by _ _ _ holds fault
 
+kept-say : (law : Law) (ino place : ℕ) (bytes : List ℕ) →
+    Keeps law.base IsGiven (say_served ino place bytes)
+kept-say law ino place bytes =
+    keep-look (λ w. keep-give (either (is_sync_at (core_in w ino).log place)))
+  where
+    either : (test : Bool) → IsGiven (if test then Placed ino place else Got ino place bytes)
+    either true = tt
+    either false = tt
+
 pub kept-read-or-sync : (law : Law) (d : Descriptor) (c : ℕ) (request : Request) (moves : Bool) →
-    Keeps law.base Any (read_or_sync d c law.line request moves)
+    Keeps law.base IsGiven (read_or_sync d c law.line request moves)
 kept-read-or-sync law d c request moves =
     keep-then (kept-read law d c request) (λ place a.
     keep-then (record {
       by = defers-by law (kept-served law d.grant.ino place) (quiet-by c d moves place);
-    }) (λ bytes a. keep-look (λ w. keep-give tt)))
+    }) (λ bytes a. kept-say law d.grant.ino place bytes))
 
 pub kept-post : (law : Law) (d : Descriptor) (c : ℕ) (request : Request) →
-    Keeps law.base Any (post d c law.line request)
+    Keeps law.base IsGiven (post d c law.line request)
 kept-post law d c request =
     keep-then (kept-read law d c request) (λ place a. keep-give tt)
 
 pub kept-posted : (law : Law) (d : Descriptor) (place : ℕ) →
-    Keeps law.base Any (serve_posted d place)
+    Keeps law.base IsGiven (serve_posted d place)
 kept-posted law d place =
     keep-look (λ w.
-    keep-then (keep-refuse _ _) (λ u a.
-    keep-then (kept-served law d.grant.ino place) (λ bytes a. keep-look (λ w. keep-give tt))))
+    keep-then (keep-refuse _ _ tt) (λ u a.
+    keep-then (kept-served law d.grant.ino place) (λ bytes a. kept-say law d.grant.ino place bytes)))
 
 -- ---- seek, queue, close
 
 pub kept-seek : (law : Law) (d : Descriptor) (c : ℕ) (seek : Seek) →
-    Keeps law.base Any (lseek d c seek)
+    Keeps law.base IsGiven (lseek d c seek)
 kept-seek law d c seek =
-    keep-then (keep-there law _ _) (λ to a.
-    keep-then (keep-refuse _ _) (λ u a.
+    keep-then (keep-there law _ _ tt) (λ to a.
+    keep-then (keep-refuse _ _ tt) (λ u a.
     keep-then (keep-changes (quiet-move c d.fd to)) (λ u a. keep-give tt)))
 
-pub kept-listed : (law : Law) (d : Descriptor) → Keeps law.base Any (list_queue d)
+pub kept-listed : (law : Law) (d : Descriptor) → Keeps law.base IsGiven (list_queue d)
 kept-listed law d = keep-look (λ w. keep-give tt)
 
 pub kept-close-fd : (law : Law) (d : Descriptor) (c : ℕ) →
-    Keeps law.base Any (close d c law.line)
+    Keeps law.base IsGiven (close d c law.line)
 kept-close-fd law d c =
     keep-look (λ w.
     keep-then (keep-each _ (kept-drop law d.grant.ino)) (λ u a.

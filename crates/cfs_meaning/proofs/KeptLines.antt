@@ -1,7 +1,7 @@
 -- Each line of a mounted store keeps each law, but for those that set the power or a plan, the crash
 -- and the caller's.
 use Rattle.std.proofs.Common.{◌≡◌, ℕ, Bool, true, false, Option, Some, None, List, [], ◌∷◌, refl, ◌+◌}
-use Rattle.std.specs.Prelude.{Result, Ok, Err, is_some}
+use Rattle.std.specs.Prelude.{Result, Ok, Err, is_some, if◌then◌else◌}
 use Rattle.cfs_cred.specs.declared.credential.Credential.{Credential}
 use Rattle.cfs_print.specs.declared.printed.Printed.{Printed}
 use Rattle.cfs_script.specs.declared.form.Form.{Form}
@@ -9,6 +9,8 @@ use Rattle.cfs_script.specs.declared.form.Form.TheVariants as forms
 use Rattle.cfs_requests.specs.Steps.{makes_directory, moves_node, opens_file, removes_directory, unlinks_file}
 use Rattle.cfs_meaning.specs.World.{Down, Failed, Phase, Up, World, core_in}
 use Rattle.cfs_meaning.specs.Inode.{Absent, Behind, Ready, Verdict, verdict}
+use Rattle.cfs_print.specs.declared.printed.Printed.TheVariants.{Fine, More}
+use Rattle.cfs_meaning.specs.Laws.{IsGiven}
 use Rattle.cfs_meaning.specs.Files.{find_room, room_or_full}
 use Rattle.cfs_meaning.specs.Workers.{Item, apply_line, chosen, dispatch_by, dispatch_line, do_item, drain, finish_line, say_turn, settle_line, skip_line, take_turn, there, trim_each, trim_line, turn, turn_line, work}
 use Rattle.cfs_meaning.specs.Play.{by, does, up, while_up}
@@ -23,50 +25,54 @@ use Rattle.cfs_meaning.proofs.Quiet.{quiet-all}
 -- ---- workers
 
 kept-there : (law : Law) (ino : ℕ) → Keeps law.base Any (there ino)
-kept-there law ino = keep-look (λ w. keep-refuse _ _)
+kept-there law ino = keep-look (λ w. keep-refuse _ _ tt)
 
 kept-dispatch-by : (law : Law) (ino place : ℕ) (v : Verdict) →
-    Keeps law.base Any (dispatch_by ino place v)
-kept-dispatch-by law ino place Absent = keep-say
-kept-dispatch-by law ino place (Behind q) = keep-say
+    Keeps law.base IsGiven (dispatch_by ino place v)
+kept-dispatch-by law ino place Absent = keep-say tt
+kept-dispatch-by law ino place (Behind q) = keep-say tt
 kept-dispatch-by law ino place Ready =
     keep-then (kept-dispatch law ino place) (λ u a. keep-look (λ w. keep-give tt))
 
-kept-dispatch-line : (law : Law) (ino place : ℕ) → Keeps law.base Any (dispatch_line ino place)
+kept-dispatch-line : (law : Law) (ino place : ℕ) → Keeps law.base IsGiven (dispatch_line ino place)
 kept-dispatch-line law ino place =
     keep-then (keep-then (kept-there law ino) (λ u a. keep-now)) (λ w a.
     kept-dispatch-by law ino place (verdict (core_in w ino) place))
 
-kept-apply-line : (law : Law) (ino place : ℕ) → Keeps law.base Any (apply_line ino place)
+kept-apply-line : (law : Law) (ino place : ℕ) → Keeps law.base IsGiven (apply_line ino place)
 kept-apply-line law ino place =
     keep-look (λ w.
-    keep-then (keep-refuse _ _) (λ u a.
+    keep-then (keep-refuse _ _ tt) (λ u a.
     keep-then (kept-apply law ino place) (λ u a. keep-look (λ w. keep-give tt))))
 
-kept-finish-line : (law : Law) (ino place : ℕ) → Keeps law.base Any (finish_line ino place)
+kept-finish-line : (law : Law) (ino place : ℕ) → Keeps law.base IsGiven (finish_line ino place)
 kept-finish-line law ino place =
     keep-look (λ w.
-    keep-then (keep-refuse _ _) (λ u a.
-    keep-then (keep-refuse _ _) (λ u a.
-    keep-then (kept-finish law ino place) (λ more a. keep-give tt))))
+    keep-then (keep-refuse _ _ tt) (λ u a.
+    keep-then (keep-refuse _ _ tt) (λ u a.
+    keep-then (kept-finish law ino place) (λ more a. keep-give (either more)))))
+  where
+    either : (more : Bool) → IsGiven (if more then More else Fine)
+    either true = tt
+    either false = tt
 
-kept-skip-line : (law : Law) (ino place : ℕ) → Keeps law.base Any (skip_line ino place)
+kept-skip-line : (law : Law) (ino place : ℕ) → Keeps law.base IsGiven (skip_line ino place)
 kept-skip-line law ino place =
     keep-then (kept-there law ino) (λ u a.
     keep-look (λ w.
-    keep-then (keep-refuse _ _) (λ u a.
+    keep-then (keep-refuse _ _ tt) (λ u a.
     keep-then (kept-skip law ino place) (λ u a. keep-give tt))))
 
-kept-trim-line : (law : Law) (ino : ℕ) → Keeps law.base Any (trim_line ino)
+kept-trim-line : (law : Law) (ino : ℕ) → Keeps law.base IsGiven (trim_line ino)
 kept-trim-line law ino =
     keep-then (keep-then (kept-there law ino) (λ u a. keep-repeats (kept-trim law ino)))
     (λ n a. keep-give tt)
 
-kept-settle-line : (law : Law) (ino : ℕ) → Keeps law.base Any (settle_line ino)
+kept-settle-line : (law : Law) (ino : ℕ) → Keeps law.base IsGiven (settle_line ino)
 kept-settle-line law ino =
     keep-then (kept-there law ino) (λ u a.
     keep-look (λ w.
-    keep-then (keep-refuse _ _) (λ u a.
+    keep-then (keep-refuse _ _ tt) (λ u a.
     keep-then (kept-settle law ino) (λ u a. keep-give tt))))
 
 kept-item : (law : Law) (x : Item) → Keeps law.base Any (do_item x)
@@ -83,8 +89,8 @@ kept-take law (Some x) =
 kept-turn : (law : Law) → Keeps law.base Any turn
 kept-turn law = keep-look (λ w. kept-take law (chosen (work w)))
 
-kept-say-turn : (law : Law) (x : Option Item) → Keeps law.base Any (say_turn x)
-kept-say-turn law None = keep-say
+kept-say-turn : (law : Law) (x : Option Item) → Keeps law.base IsGiven (say_turn x)
+kept-say-turn law None = keep-say tt
 kept-say-turn law (Some x) = keep-give tt
 
 kept-trims : (law : Law) (inos : List ℕ) (freed : ℕ) → Keeps law.base Any (trim_each inos freed)
@@ -92,7 +98,7 @@ kept-trims law [] freed = keep-give tt
 kept-trims law (ino ∷ rest) freed =
     keep-then (keep-repeats (kept-trim law ino)) (λ n a. kept-trims law rest (freed + n))
 
-kept-drain : (law : Law) → Keeps law.base Any drain
+kept-drain : (law : Law) → Keeps law.base IsGiven drain
 kept-drain law =
     keep-then (keep-repeats (keep-then (kept-turn law) (λ x a. keep-give tt))) (λ turns a.
     keep-look (λ w.
@@ -100,15 +106,21 @@ kept-drain law =
 
 -- ---- lines
 
-kept-phase : (law : Law) (phase : Phase) {way : Way Printed} → Keeps law.base Any way →
-    Keeps law.base Any (while_up phase way)
-kept-phase law Up kept = kept
-kept-phase law Down kept = keep-say
-kept-phase law Failed kept = keep-say
+-- the answer, if the line has one
+abbrev pub IsGivenIfAny : Option Printed → Type 0
+IsGivenIfAny None = Unit {0}
+IsGivenIfAny (Some answer) = IsGiven answer
 
-kept-up : (law : Law) {way : Way Printed} → Keeps law.base Any way → Keeps law.base Any (up way)
+kept-phase : (law : Law) (phase : Phase) {way : Way Printed} → Keeps law.base IsGiven way →
+    Keeps law.base IsGiven (while_up phase way)
+kept-phase law Up kept = kept
+kept-phase law Down kept = keep-say tt
+kept-phase law Failed kept = keep-say tt
+
+kept-up : (law : Law) {way : Way Printed} → Keeps law.base IsGiven way →
+    Keeps law.base IsGivenIfAny (up way)
 kept-up law kept =
-    keep-then (keep-look (λ w. kept-phase law w.phase kept)) (λ answer a. keep-give tt)
+    keep-then (keep-look (λ w. kept-phase law w.phase kept)) (λ answer given. keep-give given)
 
 -- the lines that work on files and the tree alone
 abbrev pub is_plain : Form → Bool
@@ -125,7 +137,7 @@ kept-by : (law : Law) {A : Type 0} {R : A → Type 0} (c : ℕ) {way : Credentia
 kept-by law c kept = keep-look (λ w. kept _)
 
 pub kept-plain : (law : Law) (form : Form) → is_plain form ≡ true →
-    Keeps law.base Any (does law.line form)
+    Keeps law.base IsGivenIfAny (does law.line form)
 kept-plain law (forms.Caller c uid gid) plain = absurd (cc)
 kept-plain law (forms.Open c path flags mode) plain =
     kept-up law (keep-then (kept-by law c (λ credential.

@@ -1,10 +1,15 @@
 -- What is done to the tree keeps each law.
 use Rattle.std.proofs.Common.{◌≡◌, ℕ, Bool, true, false, Option, Some, None, List, [], ◌∷◌, length, refl, ap, ◌∙◌}
-use Rattle.std.specs.Prelude.{Result, Ok, Err}
+use Rattle.std.specs.Prelude.{Result, Ok, Err, if◌then◌else◌, is_none}
 use Rattle.cfs_dir.specs.declared.change.Change.{Change}
 use Rattle.cfs_requests.specs.Steps.{NameAnswer, NameRequest}
 use Rattle.cfs_requests.specs.Steps as names
 use Rattle.cfs_print.specs.declared.printed.Printed.{Printed}
+use Rattle.cfs_print.specs.declared.printed.Printed.TheVariants.{NoNumber, NoRecord}
+use Rattle.cfs_dir.specs.declared.posix.Posix.TheVariants as posix
+use Rattle.cfs_requests.specs.declared.name_refusal.NameRefusal.{NameRefusal}
+use Rattle.cfs_requests.specs.declared.name_refusal.NameRefusal.TheVariants as refusals
+use Rattle.cfs_meaning.specs.Laws.{IsGiven}
 use Rattle.cfs_meaning.specs.NameSteps.{Order, changes_of, refusal_of, step_of}
 use Rattle.cfs_meaning.specs.World.{World}
 use Rattle.cfs_meaning.specs.Names.{ask, ask_and_purge, checkpoint, dying, free_record, log_step, open_with, purge_all, refusal_answer, say_made, say_named, step_in, store_change}
@@ -46,7 +51,7 @@ same_names queues order = record {
   quiet = λ old new quiet holds. (quiet.queues ∙ holds.0, quiet.order ∙ holds.1);
   fault = λ may. tt;
   waits = λ place. tt;
-  says = λ answer. tt;
+  says = λ answer given. tt;
 }
 
 abbrev both : Base → Base → Base
@@ -61,7 +66,7 @@ both one other = record {
   quiet = λ old new quiet holds. (one.quiet old new quiet holds.0, other.quiet old new quiet holds.1);
   fault = λ may. (one.fault may.0, other.fault may.1);
   waits = λ place. (one.waits place, other.waits place);
-  says = λ answer. (one.says answer, other.says answer);
+  says = λ answer given. (one.says answer given, other.says answer given);
 }
 
 -- from a world with two laws to one with the first of them
@@ -109,6 +114,16 @@ log-then-by law queues order c request rec step is old end new holds same (ends 
 log-then-by law queues order c request rec step is old end new holds same (follows way gives) =
     (tt, (log-by law queues order c request rec step is old (Ok tt) _ holds same way).1)
 
+refusal-given : (w : World) (refusal : Option NameRefusal) → IsGiven (refusal_answer w refusal)
+refusal-given w None = tt
+refusal-given w (Some (refusals.Words error)) = tt
+refusal-given w (Some (refusals.Tree posix.TooManyFiles)) = no-room (is_none (free_record w))
+  where
+    no-room : (test : Bool) → IsGiven (if test then NoRecord else NoNumber)
+    no-room true = tt
+    no-room false = tt
+refusal-given w (Some (refusals.Tree error)) = tt
+
 ask-from : (law : Law) (c : ℕ) (request : NameRequest) (w : World) →
     Leads law.base (same_names (length w.queues) w.names.now) Any
     (known (step_in w c request (free_record w))
@@ -116,7 +131,8 @@ ask-from : (law : Law) (c : ℕ) (request : NameRequest) (w : World) →
     >>= (λ step. each (changes_of w.names.now request (free_record w)) store_change
     >>= (λ u. Changes (log_step c law.line request (free_record w) step) >> give step.0)))
 ask-from law c request w =
-    lead-then (keep-known (step_in w c request (free_record w)) _) (λ step is.
+    lead-then (keep-known (step_in w c request (free_record w)) _
+    (refusal-given w (refusal_of w.names.now request (free_record w)))) (λ step is.
     lead-then (keep-each _ (kept-store _)) (λ u a.
     record {
       by = log-then-by law (length w.queues) w.names.now c request (free_record w) step is;
@@ -136,24 +152,24 @@ kept-ask law c request = record { by = ask-by law c request }
 -- ---- the lines' ends
 
 pub kept-open : (law : Law) (c : ℕ) (appends : Bool) (reply : NameAnswer) →
-    Keeps law.base Any (open_with c appends reply)
+    Keeps law.base IsGiven (open_with c appends reply)
 kept-open law c appends (names.granted grant) =
     keep-look (λ w. keep-then (keep-changes (quiet-descriptors c _)) (λ u a. keep-give tt))
 kept-open law c appends (names.numbered ino) = keep-never
 kept-open law c appends names.done = keep-never
 
-pub kept-made : (law : Law) (reply : NameAnswer) → Keeps law.base Any (say_made reply)
+pub kept-made : (law : Law) (reply : NameAnswer) → Keeps law.base IsGiven (say_made reply)
 kept-made law (names.granted grant) = keep-never
 kept-made law (names.numbered ino) = keep-look (λ w. keep-give tt)
 kept-made law names.done = keep-never
 
-pub kept-named : (law : Law) → Keeps law.base Any say_named
+pub kept-named : (law : Law) → Keeps law.base IsGiven say_named
 kept-named law = keep-look (λ w. keep-give tt)
 
 kept-purges : (law : Law) → Keeps law.base Any purge_all
 kept-purges law = keep-look (λ w. keep-each (dying w) (λ ino. keep-shrugs (kept-purge law ino)))
 
 pub kept-ask-purge : (law : Law) (c : ℕ) (request : NameRequest) →
-    Keeps law.base Any (ask_and_purge c law.line request)
+    Keeps law.base IsGiven (ask_and_purge c law.line request)
 kept-ask-purge law c request =
     keep-then (keep-then (kept-ask law c request) (λ u a. kept-purges law)) (λ u a. kept-named law)

@@ -4,6 +4,8 @@ use Rattle.cfs_core.specs.declared.inode_core.Core.{Core}
 use Rattle.cfs_core_laws.specs.Reached.{IsReached}
 use Rattle.cfs_script.specs.declared.line.Line.{Line}
 use Rattle.cfs_print.specs.declared.out_line.OutLine.{OutLine}
+use Rattle.cfs_print.specs.declared.printed.Printed.{Printed}
+use Rattle.cfs_print.specs.declared.printed.Printed.TheVariants as answers
 use Rattle.cfs_meaning.specs.World.{File, Up, World}
 use Rattle.cfs_meaning.specs.Play.{Step}
 
@@ -22,3 +24,11 @@ abbrev pub CoresStayReached : Type 0
 CoresStayReached =
     (old new : World) (line : Line) (out : List OutLine) → old.phase ≡ Up → Step line old out new →
     AreReached old → AreReached new
+
+-- ---- answers
+
+-- neither that a device failed nor that the power is off
+abbrev pub IsGiven : Printed → Type 0
+IsGiven answers.Faulty = ⊥
+IsGiven answers.Stopped = ⊥
+IsGiven other = Unit {0}
