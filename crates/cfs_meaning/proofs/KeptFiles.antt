@@ -15,7 +15,7 @@ use Rattle.cfs_meaning.specs.Files.{Defers, Helps, admit_write, append, clear_wa
 use Rattle.cfs_meaning.proofs.Keeping.{Any, EndsAs, IsQuiet, Keeps, keep-changes, keep-choose, keep-each, keep-end, keep-give, keep-known, keep-look, keep-mends, keep-refuse, keep-repeats, keep-say, keep-steps, keep-then, keep-when}
 use Rattle.cfs_meaning.proofs.KeptInode.{kept-admit, kept-drop, kept-job, kept-read, kept-serve, kept-settle, kept-skip}
 use Rattle.cfs_meaning.proofs.KeptNames.{kept-ask-purge}
-use Rattle.cfs_meaning.proofs.Laws.{Law}
+use Rattle.cfs_meaning.proofs.Kept.{Law}
 use Rattle.cfs_meaning.proofs.Quiet.{quiet-by, quiet-descriptors, quiet-move, quiet-queue}
 
 -- ---- helping

@@ -19,7 +19,7 @@ use Rattle.cfs_meaning.proofs.Keeping.{Any, Base, EndsAs, Keeps, keep-changes, k
 use Rattle.cfs_meaning.proofs.KeptInode.{kept-apply, kept-dispatch, kept-finish, kept-job, kept-settle, kept-skip, kept-trim}
 use Rattle.cfs_meaning.proofs.KeptNames.{kept-ask, kept-ask-purge, kept-made, kept-named, kept-open}
 use Rattle.cfs_meaning.proofs.KeptFiles.{kept-close-fd, kept-full, kept-listed, kept-opened, kept-post, kept-posted, kept-pwrite, kept-read-or-sync, kept-room, kept-seek, kept-to-read, kept-to-write, kept-truncate, kept-write}
-use Rattle.cfs_meaning.proofs.Laws.{Law}
+use Rattle.cfs_meaning.proofs.Kept.{Law}
 use Rattle.cfs_meaning.proofs.Quiet.{quiet-all}
 
 -- ---- workers

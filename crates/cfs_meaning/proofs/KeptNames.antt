@@ -16,7 +16,7 @@ use Rattle.cfs_meaning.specs.Names.{ask, ask_and_purge, checkpoint, dying, free_
 use Rattle.cfs_meaning.specs.Ways.{Changes, changes, Halt, Now, Then, Way, each, ends, follows, give, gives, known, now, ◌>>=◌, ◌>>◌}
 use Rattle.cfs_meaning.proofs.Keeping.{Any, Base, EndsAs, Keeps, keep-changes, keep-each, keep-give, keep-known, keep-look, keep-never, keep-only, keep-shrugs, keep-steps, keep-then, keep-tries, keep-unless, keep-when}
 use Rattle.cfs_meaning.proofs.KeptInode.{kept-purge}
-use Rattle.cfs_meaning.proofs.Laws.{Law}
+use Rattle.cfs_meaning.proofs.Kept.{Law}
 use Rattle.cfs_meaning.proofs.Quiet.{quiet-descriptors, quiet-doubt, quiet-recorded, quiet-selected, quiet-settled}
 
 -- ---- journal and checkpoint

@@ -1,7 +1,9 @@
 pub mod Keeping
 pub mod Quiet
-pub mod Laws
+pub mod Kept
 pub mod KeptInode
 pub mod KeptNames
 pub mod KeptFiles
 pub mod KeptLines
+pub mod Lines
+pub mod Reached

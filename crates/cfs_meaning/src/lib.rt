@@ -1,12 +1,6 @@
-//! What a run of scripts means.
+//! What a run of scripts means, and what holds of every run.
 #![tactic(auto)]
 
-ghost use Rattle.std.specs.Prelude.{◌≡◌, true};
-ghost use Rattle.cfs_meaning.specs.Laws.{CoresStayReached};
+mod laws;
 
-/// Nothing yet.
-pub fn nothing() -> bool
-    ensures { result ≡ true }
-{
-    true
-}
+pub use laws::cores_stay_reached;

@@ -1,0 +1,130 @@
+-- The lines of power, of the crash and of callers, beside those that work on files and the tree.
+use Rattle.std.proofs.Common.{◌≡◌, ℕ, Bool, true, false, Option, Some, None, refl, sym, ap, subst}
+use Rattle.std.specs.Prelude.{Result, Ok, Err}
+use Rattle.cfs_print.specs.declared.printed.Printed.{Printed}
+use Rattle.cfs_print.specs.declared.printed.Printed.TheVariants as answers
+use Rattle.cfs_words.specs.declared.device.Device.{Device}
+use Rattle.cfs_script.specs.declared.form.Form.{Form}
+use Rattle.cfs_script.specs.declared.form.Form.TheVariants as forms
+use Rattle.cfs_meaning.specs.Drive.{Drive}
+use Rattle.cfs_meaning.specs.World.{Down, Failed, Phase, Up, World, with_drive}
+use Rattle.cfs_meaning.specs.Laws.{IsGiven}
+use Rattle.cfs_meaning.specs.Play.{crash_in, does, joined, mount_line, plan, planned, stopped}
+use Rattle.cfs_meaning.specs.Ways.{Changes, changes, Ends, Fault, Gives, Halt, Says, Then, ends, follows, gives, halts, now}
+use Rattle.cfs_meaning.proofs.Keeping.{Any, Base, EndsAs, Keeps, keep-give, keep-known, keep-look, keep-then}
+use Rattle.cfs_meaning.proofs.KeptLines.{IsGivenIfAny, is_plain, kept-plain}
+use Rattle.cfs_meaning.proofs.Kept.{Law}
+
+moved-by : (base : Base) {change : World → World} →
+    ((world : World) → base.Holds world → base.Holds (change world)) →
+    (old : World) (end : Result (Unit {0}) Halt) (new : World) → base.Holds old →
+    Changes change old end new → EndsAs base Any end × base.Holds new
+moved-by base kept old end new holds changes = (tt, kept old holds)
+
+-- a change that keeps what holds
+pub keep-moved : (base : Base) {change : World → World} →
+    ((world : World) → base.Holds world → base.Holds (change world)) →
+    Keeps base Any (Changes change)
+keep-moved base kept = record { by = moved-by base kept }
+
+-- what stops, plans and callers leave is kept
+pub record Powers (law : Law) : Type 0 where
+  pub joins : (c uid gid : ℕ) (world : World) → law.base.Holds world →
+      law.base.Holds (joined c uid gid world)
+  pub stops : (n : ℕ) (world : World) → law.base.Holds world →
+      law.base.Holds (with_drive (stopped n) world)
+  pub plans : (device : ℕ) (writing : Bool) (k : ℕ) (world : World) → law.base.Holds world →
+      law.base.Holds (with_drive (planned device writing k) world)
+  pub crashes : (k : ℕ) (world : World) → law.base.Holds world →
+      law.base.Holds (crash_in k world)
+
+kept-plan : (law : Law) → Powers law → (device : Device) (writing : Bool) (k : ℕ) →
+    Keeps law.base IsGiven (plan device writing k)
+kept-plan law powers device writing k =
+    keep-look (λ w.
+    keep-then (keep-known _ _ tt) (λ number is.
+    keep-then (keep-moved law.base (powers.plans number writing k)) (λ u a. keep-give tt)))
+
+abbrev pub is_mount : Form → Bool
+is_mount forms.Mount = true
+is_mount other = false
+
+pub kept-power : (law : Law) → Powers law → (form : Form) → is_plain form ≡ false →
+    is_mount form ≡ false → Keeps law.base IsGivenIfAny (does law.line form)
+kept-power law powers (forms.Caller c uid gid) rough other =
+    keep-then (keep-moved law.base (powers.joins c uid gid)) (λ u a. keep-give tt)
+kept-power law powers (forms.Stop n) rough other =
+    keep-then (keep-then (keep-moved law.base (powers.stops n)) (λ u a. keep-give tt))
+    (λ answer given. keep-give given)
+kept-power law powers (forms.Crash k) rough other =
+    keep-then (keep-then (keep-moved law.base (powers.crashes k)) (λ u a. keep-give tt))
+    (λ answer given. keep-give given)
+kept-power law powers forms.Mount rough other = absurd (cc)
+kept-power law powers (forms.Fail device k) rough other =
+    keep-then (kept-plan law powers device true k) (λ answer given. keep-give given)
+kept-power law powers (forms.FailRead device k) rough other =
+    keep-then (kept-plan law powers device false k) (λ answer given. keep-give given)
+kept-power law powers form rough other = absurd (cc)
+
+-- every line but a mount
+pub kept-form : (law : Law) → Powers law → (form : Form) → is_mount form ≡ false →
+    Keeps law.base IsGivenIfAny (does law.line form)
+kept-form law powers form other = by-kind (is_plain form) refl
+  where
+    by-kind : (plain : Bool) → is_plain form ≡ plain →
+        Keeps law.base IsGivenIfAny (does law.line form)
+    by-kind true is = kept-plain law form is
+    by-kind false is = kept-power law powers form is other
+
+-- ---- a mount of what is mounted
+
+says-mounted : (phase : Phase) → phase ≡ Up → (old : World) (end : Result Printed Halt)
+    (new : World) → mount_line phase old end new →
+    (end ≡ Err (Says answers.Mounted)) × (new ≡ old)
+says-mounted Up is old end new halts = (refl, refl)
+says-mounted Down is old end new way = absurd (cc)
+says-mounted Failed is old end new way = absurd (cc)
+
+-- it changes nothing
+pub mount-up : (line : ℕ) (old : World) (end : Result (Option Printed) Halt) (new : World) →
+    old.phase ≡ Up → does line forms.Mount old end new →
+    (end ≡ Err (Says answers.Mounted)) × (new ≡ old)
+mount-up line old end new up (ends (ends way)) = elim way [ ]
+mount-up line old end new up (ends {halt = halt} (follows now rest)) =
+    let says = says-mounted old.phase up old (Err halt) new rest in
+    (ap again says.0, says.1)
+  where
+    again : Result Printed Halt → Result (Option Printed) Halt
+    again (Ok answer) = Ok (Some answer)
+    again (Err h) = Err h
+mount-up line old end new up (follows {a = a} (follows now rest) gives) =
+    let says = says-mounted old.phase up old (Ok a) new rest in absurd (cc)
+
+only-mount : (form : Form) → is_mount form ≡ true → form ≡ forms.Mount
+only-mount forms.Mount is = refl
+only-mount form is = absurd (cc)
+
+says-kept : (law : Law) (end : Result (Option Printed) Halt) → end ≡ Err (Says answers.Mounted) →
+    EndsAs law.base IsGivenIfAny end
+says-kept law (Ok answer) is = absurd (cc)
+says-kept law (Err halt) is =
+    subst law.base.MayEnd (sym (ap halt-of is)) (law.base.says answers.Mounted tt)
+  where
+    halt-of : Result (Option Printed) Halt → Halt
+    halt-of (Ok answer) = Fault
+    halt-of (Err h) = h
+
+-- each line of a mounted store keeps the law
+pub line-kept : (law : Law) → Powers law → (form : Form) (old : World)
+    (end : Result (Option Printed) Halt) (new : World) → old.phase ≡ Up → law.base.Holds old →
+    does law.line form old end new → EndsAs law.base IsGivenIfAny end × law.base.Holds new
+line-kept law powers form old end new up holds way = by-kind (is_mount form) refl
+  where
+    by-kind : (mount : Bool) → is_mount form ≡ mount →
+        EndsAs law.base IsGivenIfAny end × law.base.Holds new
+    by-kind false is = (kept-form law powers form is).by old end new holds way
+    by-kind true is =
+        let here : does law.line forms.Mount old end new =
+            subst (λ f. does law.line f old end new) (only-mount form is) way in
+        let same = mount-up law.line old end new up here in
+        (says-kept law end same.0, subst law.base.Holds (sym same.1) holds)
