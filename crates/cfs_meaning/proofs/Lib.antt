@@ -7,3 +7,4 @@ pub mod KeptFiles
 pub mod KeptLines
 pub mod Lines
 pub mod Reached
+pub mod Calm

@@ -1,13 +1,20 @@
 -- What holds of every run of a script.
-use Rattle.std.specs.Prelude.{◌≡◌, ℕ, Bool, true, false, List, [], ◌∷◌}
+use Rattle.std.specs.Prelude.{◌≡◌, ℕ, ◌≤◌, Bool, true, false, List, [], ◌∷◌, length}
+use Rattle.cfs_file.specs.declared.entry.Entry.{Entry}
+use Rattle.cfs_pmem.specs.declared.meter.Supply.TheVariants.{Steady}
+use Rattle.cfs_pmem.specs.Meter.{plans_of, supply_of}
 use Rattle.cfs_core.specs.declared.inode_core.Core.{Core}
 use Rattle.cfs_core_laws.specs.Reached.{IsReached}
+use Rattle.cfs_script.specs.declared.form.Form.{Form}
+use Rattle.cfs_script.specs.declared.form.Form.TheVariants as forms
 use Rattle.cfs_script.specs.declared.line.Line.{Line}
 use Rattle.cfs_print.specs.declared.out_line.OutLine.{OutLine}
 use Rattle.cfs_print.specs.declared.printed.Printed.{Printed}
 use Rattle.cfs_print.specs.declared.printed.Printed.TheVariants as answers
+use Rattle.cfs_meaning.specs.Drive.{Drive}
+use Rattle.cfs_meaning.specs.NameSteps.{AreInOrder}
 use Rattle.cfs_meaning.specs.World.{File, Up, World}
-use Rattle.cfs_meaning.specs.Play.{Step}
+use Rattle.cfs_meaning.specs.Play.{Run, Step}
 
 -- P holds of the inode number and the core of each file whose core has not ended
 abbrev pub OfEachCore : (ℕ → Core → Type 0) → List File → Type 0
@@ -32,3 +39,61 @@ abbrev pub IsGiven : Printed → Type 0
 IsGiven answers.Faulty = ⊥
 IsGiven answers.Stopped = ⊥
 IsGiven other = Unit {0}
+
+-- ---- nothing fails
+
+-- the power has no stop and no plan
+pub record IsCalm (drive : Drive) : Type 0 where
+  pub steady : supply_of drive.asked ≡ Steady
+  pub unplanned : plans_of drive.asked ≡ []
+
+-- the line makes no device fail
+abbrev pub is_calm : Form → Bool
+is_calm (forms.Stop n) = false
+is_calm (forms.Fail device k) = false
+is_calm (forms.FailRead device k) = false
+is_calm other = true
+
+abbrev pub AreCalm : List Line → Type 0
+AreCalm [] = Unit {0}
+AreCalm (line ∷ lines) = (is_calm line.form ≡ true) × AreCalm lines
+
+abbrev pub AreGiven : List OutLine → Type 0
+AreGiven [] = Unit {0}
+AreGiven (out ∷ outs) = IsGiven out.answer × AreGiven outs
+
+-- Of lines that make no device fail none answers that one did, crashes and mounts among them.
+abbrev pub CalmRunsAnswer : Type 0
+CalmRunsAnswer =
+    (old new : World) (lines : List Line) (outs : List OutLine) → IsCalm old.drive →
+    AreCalm lines → Run old lines outs new → AreGiven outs × IsCalm new.drive
+
+-- ---- requests on names
+
+-- The requests on names since the mount are a legal order from the tree that it found to the tree
+-- and the grants as they are.
+abbrev pub AreNamesLegal : World → Type 0
+AreNamesLegal world =
+    AreInOrder (length world.queues) world.names.base world.names.log world.names.now
+
+abbrev pub NamesStayLegal : Type 0
+NamesStayLegal =
+    (old new : World) (line : Line) (out : List OutLine) → Step line old out new →
+    AreNamesLegal old → AreNamesLegal new
+
+-- ---- logs
+
+-- The entries come from lines whose numbers begin at one and end at another, and never fall.
+abbrev pub AreOfLines : ℕ → ℕ → List Entry → Type 0
+AreOfLines from to [] = from ≤ to
+AreOfLines from to (entry ∷ entries) = (from ≤ entry.line) × AreOfLines entry.line to entries
+
+-- each log has entries of lines up to that number, in their order
+abbrev pub AreLogsOfLines : ℕ → World → Type 0
+AreLogsOfLines to world = OfEachCore (λ ino core. AreOfLines 0 to core.log) world.files
+
+abbrev pub LogsFollowLines : Type 0
+LogsFollowLines =
+    (old new : World) (line : Line) (out : List OutLine) (to : ℕ) → old.phase ≡ Up →
+    Step line old out new → to ≤ line.number → AreLogsOfLines to old →
+    AreLogsOfLines line.number new
