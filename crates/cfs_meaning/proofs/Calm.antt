@@ -23,7 +23,7 @@ use Rattle.cfs_meaning.specs.Ways.{Changes, Fault, Halt, Says, Waits}
 use Rattle.cfs_meaning.proofs.Keeping.{Any, Base, EndsAs, Keeps, keep-changes, keep-each, keep-give, keep-look, keep-say, keep-steps, keep-then, keep-when}
 use Rattle.cfs_meaning.proofs.Kept.{Law}
 use Rattle.cfs_meaning.proofs.KeptLines.{IsGivenIfAny, is_plain, kept-plain}
-use Rattle.cfs_meaning.proofs.Lines.{keep-moved}
+use Rattle.cfs_meaning.proofs.Lines.{keep-moved, kept-home}
 
 -- ---- operations of a calm drive
 
@@ -88,17 +88,6 @@ calm_law line = record {
 }
 
 -- ---- mounts
-
-kept-home : (base : Base) → Keeps base Any mount_steps
-kept-home base =
-    keep-look (λ w.
-    keep-then keep-steps (λ u a.
-    keep-then keep-steps (λ u a.
-    keep-then (keep-each _ (λ node. keep-each _ (λ entry.
-    keep-look (λ here.
-    keep-then keep-steps (λ u a.
-    keep-then (keep-when _ keep-steps) (λ u a. keep-steps)))))) (λ u a.
-    keep-then keep-steps (λ u a. keep-steps)))))
 
 kept-mount : (line : ℕ) → Keeps (calm_law line).base IsGiven mount
 kept-mount line =

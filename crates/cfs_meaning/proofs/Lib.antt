@@ -8,3 +8,5 @@ pub mod KeptLines
 pub mod Lines
 pub mod Reached
 pub mod Calm
+pub mod Orders
+pub mod LineLogs

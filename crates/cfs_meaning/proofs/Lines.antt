@@ -8,10 +8,11 @@ use Rattle.cfs_script.specs.declared.form.Form.{Form}
 use Rattle.cfs_script.specs.declared.form.Form.TheVariants as forms
 use Rattle.cfs_meaning.specs.Drive.{Drive}
 use Rattle.cfs_meaning.specs.World.{Down, Failed, Phase, Up, World, with_drive}
+use Rattle.cfs_meaning.specs.Mounting.{mount_steps}
 use Rattle.cfs_meaning.specs.Laws.{IsGiven}
 use Rattle.cfs_meaning.specs.Play.{crash_in, does, joined, mount_line, plan, planned, stopped}
 use Rattle.cfs_meaning.specs.Ways.{Changes, changes, Ends, Fault, Gives, Halt, Says, Then, ends, follows, gives, halts, now}
-use Rattle.cfs_meaning.proofs.Keeping.{Any, Base, EndsAs, Keeps, keep-give, keep-known, keep-look, keep-then}
+use Rattle.cfs_meaning.proofs.Keeping.{Any, Base, EndsAs, Keeps, keep-each, keep-give, keep-known, keep-look, keep-steps, keep-then, keep-when}
 use Rattle.cfs_meaning.proofs.KeptLines.{IsGivenIfAny, is_plain, kept-plain}
 use Rattle.cfs_meaning.proofs.Kept.{Law}
 
@@ -76,7 +77,19 @@ kept-form law powers form other = by-kind (is_plain form) refl
     by-kind true is = kept-plain law form is
     by-kind false is = kept-power law powers form is other
 
--- ---- a mount of what is mounted
+-- ---- mounts
+
+-- the steps of a mount
+pub kept-home : (base : Base) → Keeps base Any mount_steps
+kept-home base =
+    keep-look (λ w.
+    keep-then keep-steps (λ u a.
+    keep-then keep-steps (λ u a.
+    keep-then (keep-each _ (λ node. keep-each _ (λ entry.
+    keep-look (λ here.
+    keep-then keep-steps (λ u a.
+    keep-then (keep-when _ keep-steps) (λ u a. keep-steps)))))) (λ u a.
+    keep-then keep-steps (λ u a. keep-steps)))))
 
 says-mounted : (phase : Phase) → phase ≡ Up → (old : World) (end : Result Printed Halt)
     (new : World) → mount_line phase old end new →
@@ -100,7 +113,7 @@ mount-up line old end new up (ends {halt = halt} (follows now rest)) =
 mount-up line old end new up (follows {a = a} (follows now rest) gives) =
     let says = says-mounted old.phase up old (Ok a) new rest in absurd (cc)
 
-only-mount : (form : Form) → is_mount form ≡ true → form ≡ forms.Mount
+pub only-mount : (form : Form) → is_mount form ≡ true → form ≡ forms.Mount
 only-mount forms.Mount is = refl
 only-mount form is = absurd (cc)
 

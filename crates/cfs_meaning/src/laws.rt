@@ -1,9 +1,24 @@
 //! What holds of every run, as contracts of functions that do nothing.
 
-ghost use Rattle.cfs_meaning.specs.Laws.{CoresStayReached};
+ghost use Rattle.cfs_meaning.specs.Laws.{CalmRunsAnswer, CoresStayReached, LogsFollowLines, NamesStayLegal};
 
 /// While a store is mounted, each line makes of the core of each file one that the laws of cores
 /// hold of: so each file's log is legal, and a read is answered by the file before it.
 pub fn cores_stay_reached()
     ensures { CoresStayReached }
+{}
+
+/// The requests on names since a mount stay a legal order, whatever a line does.
+pub fn names_stay_legal()
+    ensures { NamesStayLegal }
+{}
+
+/// Each log has its entries in the order of the lines that they come from.
+pub fn logs_follow_lines()
+    ensures { LogsFollowLines }
+{}
+
+/// A script without stops and failures answers no line with `EIO` or `stopped`.
+pub fn calm_runs_answer()
+    ensures { CalmRunsAnswer }
 {}
