@@ -20,7 +20,7 @@ use Rattle.cfs_meaning.specs.Mounting.{bring_home, mount_steps}
 use Rattle.cfs_meaning.specs.Laws.{AreCalm, AreGiven, CalmRunsAnswer, IsCalm, IsGiven, is_calm}
 use Rattle.cfs_meaning.specs.Play.{Run, Step, answer_of, crash_in, does, goes_on, joined, mount, mount_failed, mount_line, mounted, printed, run_ends, steps_so, unless_off}
 use Rattle.cfs_meaning.specs.Ways.{Changes, Fault, Halt, Says, Waits}
-use Rattle.cfs_meaning.proofs.Keeping.{Any, Base, EndsAs, Keeps, keep-changes, keep-each, keep-give, keep-look, keep-say, keep-steps, keep-then, keep-when}
+use Rattle.cfs_meaning.proofs.Keeping.{Any, Base, EndsAs, IsSaid, Keeps, keep-changes, keep-each, keep-give, keep-look, keep-say, keep-steps, keep-then, keep-when}
 use Rattle.cfs_meaning.proofs.Kept.{Law}
 use Rattle.cfs_meaning.proofs.KeptLines.{IsGivenIfAny, is_plain, kept-plain}
 use Rattle.cfs_meaning.proofs.Lines.{keep-moved, kept-home}
@@ -67,6 +67,12 @@ IsNoFault Fault = ⊥
 IsNoFault (Waits place) = Unit {0}
 IsNoFault (Says answer) = IsGiven answer
 
+said-given : (answer : Printed) → IsSaid answer → IsGiven answer
+said-given answers.Faulty said = said
+said-given answers.Stopped said = said
+said-given (answers.Got ino place bytes) said = tt
+said-given other said = tt
+
 clash : true ≡ false → ⊥
 clash is = absurd (cc)
 
@@ -80,7 +86,7 @@ calm_law line = record {
     quiet = λ old new q holds. subst IsCalm (sym q.drive) holds;
     fault = λ may. absurd (clash (sym may));
     waits = λ place. tt;
-    says = λ answer given. given;
+    says = said-given;
   };
   line = line;
   comes = λ ino e world own may_be holds. holds;

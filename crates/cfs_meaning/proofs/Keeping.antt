@@ -4,9 +4,10 @@ use Rattle.std.proofs.Common.{◌≡◌, ℕ, suc, Bool, true, false, List, [], 
 use Rattle.std.specs.Prelude.{Result, Ok, Err}
 use Rattle.cfs_core.specs.declared.inode_core.Core.{Core}
 use Rattle.cfs_print.specs.declared.printed.Printed.{Printed}
+use Rattle.cfs_print.specs.declared.printed.Printed.TheVariants as answers
 use Rattle.cfs_meaning.specs.Drive.{Op, attempt}
 use Rattle.cfs_meaning.specs.World.{World, empty_core}
-use Rattle.cfs_meaning.specs.Laws.{IsGiven, OfEachCore}
+use Rattle.cfs_meaning.specs.Laws.{OfEachCore}
 use Rattle.cfs_meaning.specs.Ways.{Changes, changes, Ends, Fault, Gives, Halt, Mends, Now, Repeats, Says, Shrugs, Then, Tries, Waits, Way, breaks, breaks_later, choose, counts, done, each, end_with, ends, follows, give, gives, halts, known, mends, never, now, only_if, refuse_if, rests, say, says, shrugs, steps, tried, unless_fault, waits, well, when, whole, ◌>>=◌, ◌>>◌}
 
 -- A change that is no operation of a device, no event of a core and no request on names: a core
@@ -21,6 +22,13 @@ pub record IsQuiet (old new : World) : Type 1 where
   pub order : new.names.now ≡ old.names.now
   pub queues : length new.queues ≡ length old.queues
 
+-- what a line may say before its end: no bytes, and nothing of faults and of the power
+abbrev pub IsSaid : Printed → Type 0
+IsSaid answers.Faulty = ⊥
+IsSaid answers.Stopped = ⊥
+IsSaid (answers.Got ino place bytes) = ⊥
+IsSaid other = Unit {0}
+
 -- What is kept, what a try of operations may say, and how a part may end.
 pub record Base : Type 1 where
   pub Holds : World → Type 0
@@ -32,7 +40,7 @@ pub record Base : Type 1 where
   pub quiet : (old new : World) → IsQuiet old new → Holds old → Holds new
   pub fault : MayBe false → MayEnd Fault
   pub waits : (place : ℕ) → MayEnd (Waits place)
-  pub says : (answer : Printed) → IsGiven answer → MayEnd (Says answer)
+  pub says : (answer : Printed) → IsSaid answer → MayEnd (Says answer)
 
 abbrev pub EndsAs : (base : Base) → {A : Type 0} → (A → Type 0) → Result A Halt → Type 0
 EndsAs base R (Ok a) = R a
@@ -81,7 +89,7 @@ pub keep-end : {base : Base} {A : Type 0} {R : A → Type 0} {halt : Halt} → b
     Keeps base R (end_with halt)
 keep-end {base} {R} may = record { by = ends-by base R may }
 
-pub keep-say : {base : Base} {A : Type 0} {R : A → Type 0} {answer : Printed} → IsGiven answer →
+pub keep-say : {base : Base} {A : Type 0} {R : A → Type 0} {answer : Printed} → IsSaid answer →
     Keeps base R (say answer)
 keep-say {base} {answer} given = keep-end (base.says answer given)
 
@@ -139,13 +147,13 @@ pub keep-choose : {base : Base} {A : Type 0} {R : A → Type 0} (test : Bool) {o
 keep-choose true one other = one
 keep-choose false one other = other
 
-pub keep-refuse : {base : Base} (test : Bool) (answer : Printed) → IsGiven answer →
+pub keep-refuse : {base : Base} (test : Bool) (answer : Printed) → IsSaid answer →
     Keeps base Any (refuse_if test answer)
 keep-refuse true answer given = keep-say given
 keep-refuse false answer given = keep-give tt
 
 pub keep-known : {base : Base} {A : Type 0} (option : Option A) (answer : Printed) →
-    IsGiven answer → Keeps base (λ a. option ≡ Some a) (known option answer)
+    IsSaid answer → Keeps base (λ a. option ≡ Some a) (known option answer)
 keep-known None answer given = keep-say given
 keep-known (Some a) answer given = keep-give refl
 

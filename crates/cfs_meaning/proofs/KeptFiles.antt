@@ -12,7 +12,7 @@ use Rattle.cfs_meaning.specs.World.{Descriptor, World, core_in}
 use Rattle.cfs_meaning.specs.Inode.{Absent, Behind, Ready, Verdict, serve_verdict}
 use Rattle.cfs_meaning.specs.Ways.{Halt, Waits, Way, known}
 use Rattle.cfs_meaning.specs.Files.{Defers, Helps, admit_write, append, clear_way, close, collect, collected, defers, fails, fails_first, faults, find_room, ftruncate, help_lowest, help_some, helps_first, in_the_way, is_behind, is_out_itself, list_queue, lseek, make_room, opened, opened_to_read, opened_to_write, post, pwrite, read_or_sync, room_or_full, say_served, say_wrote, serve_helped, serve_posted, serves, skips, stage_and_admit, works, works_on, write}
-use Rattle.cfs_meaning.proofs.Keeping.{Any, EndsAs, IsQuiet, Keeps, keep-changes, keep-choose, keep-each, keep-end, keep-give, keep-known, keep-look, keep-mends, keep-refuse, keep-repeats, keep-say, keep-steps, keep-then, keep-when}
+use Rattle.cfs_meaning.proofs.Keeping.{Any, EndsAs, IsQuiet, IsSaid, Keeps, keep-changes, keep-choose, keep-each, keep-end, keep-give, keep-known, keep-look, keep-mends, keep-refuse, keep-repeats, keep-say, keep-steps, keep-then, keep-when}
 use Rattle.cfs_meaning.proofs.KeptInode.{kept-admit, kept-drop, kept-job, kept-read, kept-serve, kept-settle, kept-skip}
 use Rattle.cfs_meaning.proofs.KeptNames.{kept-ask-purge}
 use Rattle.cfs_meaning.proofs.Kept.{Law}
@@ -71,7 +71,7 @@ kept-full law d count =
 
 -- a value that is there, whatever it is
 keep-there : (law : Law) {A : Type 0} (option : Option A) (answer : Printed) →
-    IsGiven answer → Keeps law.base Any (known option answer)
+    IsSaid answer → Keeps law.base Any (known option answer)
 keep-there law None answer given = keep-say given
 keep-there law (Some a) answer given = keep-give tt
 
@@ -146,7 +146,7 @@ kept-way law ino place (Behind q) w =
 kept-way law ino place Absent w = keep-give tt
 kept-way law ino place Ready w = keep-give tt
 
-kept-clear : (law : Law) (ino place : ℕ) → Keeps law.base Any (clear_way ino place)
+pub kept-clear : (law : Law) (ino place : ℕ) → Keeps law.base Any (clear_way ino place)
 kept-clear law ino place = keep-look (λ w. kept-way law ino place (serve_verdict (core_in w ino) place) w)
 
 pub kept-served : (law : Law) (ino place : ℕ) → Keeps law.base Any (serve_helped ino place)

@@ -14,7 +14,7 @@ use Rattle.cfs_meaning.specs.NameSteps.{Order, changes_of, refusal_of, step_of}
 use Rattle.cfs_meaning.specs.World.{World}
 use Rattle.cfs_meaning.specs.Names.{ask, ask_and_purge, checkpoint, dying, free_record, log_step, open_with, purge_all, refusal_answer, say_made, say_named, step_in, store_change}
 use Rattle.cfs_meaning.specs.Ways.{Changes, changes, Halt, Now, Then, Way, each, ends, follows, give, gives, known, now, ◌>>=◌, ◌>>◌}
-use Rattle.cfs_meaning.proofs.Keeping.{Any, Base, EndsAs, Keeps, keep-changes, keep-each, keep-give, keep-known, keep-look, keep-never, keep-only, keep-shrugs, keep-steps, keep-then, keep-tries, keep-unless, keep-when}
+use Rattle.cfs_meaning.proofs.Keeping.{Any, Base, EndsAs, IsSaid, Keeps, keep-changes, keep-each, keep-give, keep-known, keep-look, keep-never, keep-only, keep-shrugs, keep-steps, keep-then, keep-tries, keep-unless, keep-when}
 use Rattle.cfs_meaning.proofs.KeptInode.{kept-purge}
 use Rattle.cfs_meaning.proofs.Kept.{Law}
 use Rattle.cfs_meaning.proofs.Quiet.{quiet-descriptors, quiet-doubt, quiet-recorded, quiet-selected, quiet-settled}
@@ -114,12 +114,12 @@ log-then-by law queues order c request rec step is old end new holds same (ends 
 log-then-by law queues order c request rec step is old end new holds same (follows way gives) =
     (tt, (log-by law queues order c request rec step is old (Ok tt) _ holds same way).1)
 
-refusal-given : (w : World) (refusal : Option NameRefusal) → IsGiven (refusal_answer w refusal)
+refusal-given : (w : World) (refusal : Option NameRefusal) → IsSaid (refusal_answer w refusal)
 refusal-given w None = tt
 refusal-given w (Some (refusals.Words error)) = tt
 refusal-given w (Some (refusals.Tree posix.TooManyFiles)) = no-room (is_none (free_record w))
   where
-    no-room : (test : Bool) → IsGiven (if test then NoRecord else NoNumber)
+    no-room : (test : Bool) → IsSaid (if test then NoRecord else NoNumber)
     no-room true = tt
     no-room false = tt
 refusal-given w (Some (refusals.Tree error)) = tt

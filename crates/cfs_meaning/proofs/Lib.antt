@@ -10,3 +10,4 @@ pub mod Reached
 pub mod Calm
 pub mod Orders
 pub mod LineLogs
+pub mod ReadLines

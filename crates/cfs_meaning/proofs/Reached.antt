@@ -66,7 +66,7 @@ all-made-have P empty (change ∷ list) =
 abbrev Reached : ℕ → Core → Type 0
 Reached ino core = IsReached core
 
-abbrev reached_law : ℕ → Law
+abbrev pub reached_law : ℕ → Law
 reached_law line = record {
   base = record {
     Holds = AreReached;

@@ -1,9 +1,12 @@
 -- What holds of every run of a script.
-use Rattle.std.specs.Prelude.{◌≡◌, ℕ, ◌≤◌, Bool, true, false, List, [], ◌∷◌, length}
+use Rattle.std.specs.Prelude.{◌≡◌, ℕ, ◌-◌, ◌≤◌, Bool, true, false, Some, List, [], ◌∷◌, length}
+use Rattle.std.specs.List.{slice_get}
 use Rattle.cfs_file.specs.declared.entry.Entry.{Entry}
+use Rattle.cfs_file.specs.File.{answer}
 use Rattle.cfs_pmem.specs.declared.meter.Supply.TheVariants.{Steady}
 use Rattle.cfs_pmem.specs.Meter.{plans_of, supply_of}
 use Rattle.cfs_core.specs.declared.inode_core.Core.{Core}
+use Rattle.cfs_core.specs.Good.{bytes_of, file_before}
 use Rattle.cfs_core_laws.specs.Reached.{IsReached}
 use Rattle.cfs_script.specs.declared.form.Form.{Form}
 use Rattle.cfs_script.specs.declared.form.Form.TheVariants as forms
@@ -97,3 +100,27 @@ LogsFollowLines =
     (old new : World) (line : Line) (out : List OutLine) (to : ℕ) → old.phase ≡ Up →
     Step line old out new → to ≤ line.number → AreLogsOfLines to old →
     AreLogsOfLines line.number new
+
+-- ---- reads
+
+-- The bytes are the answer to the request of that place on the file after the entries before it.
+pub record IsReadAt (place : ℕ) (bytes : List ℕ) (core : Core) : Type 0 where
+  pub entry : Entry
+  pub logged : slice_get core.log (place - 1) ≡ Some entry
+  pub right : bytes ≡ bytes_of (answer (file_before core place) entry.request)
+
+abbrev pub is_reading : Form → Bool
+is_reading (forms.Read c fd n) = true
+is_reading (forms.Pread c fd offset n) = true
+is_reading (forms.Serve c fd place) = true
+is_reading (forms.Fsync c fd) = true
+is_reading other = false
+
+-- A line that reads prints the bytes of the file after the entries before its place.
+abbrev pub ReadsAreRight : Type 0
+ReadsAreRight =
+    (old new : World) (line : Line) (out : List OutLine) (number ino place : ℕ)
+    (bytes : List ℕ) → old.phase ≡ Up → AreReached old → is_reading line.form ≡ true →
+    Step line old out new →
+    out ≡ record { number = number; answer = answers.Got ino place bytes } ∷ [] →
+    OfEachCore (λ k core. k ≡ ino → IsReadAt place bytes core) new.files

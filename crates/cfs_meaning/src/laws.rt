@@ -1,6 +1,6 @@
 //! What holds of every run, as contracts of functions that do nothing.
 
-ghost use Rattle.cfs_meaning.specs.Laws.{CalmRunsAnswer, CoresStayReached, LogsFollowLines, NamesStayLegal};
+ghost use Rattle.cfs_meaning.specs.Laws.{CalmRunsAnswer, CoresStayReached, LogsFollowLines, NamesStayLegal, ReadsAreRight};
 
 /// While a store is mounted, each line makes of the core of each file one that the laws of cores
 /// hold of: so each file's log is legal, and a read is answered by the file before it.
@@ -21,4 +21,9 @@ pub fn logs_follow_lines()
 /// A script without stops and failures answers no line with `EIO` or `stopped`.
 pub fn calm_runs_answer()
     ensures { CalmRunsAnswer }
+{}
+
+/// A line that reads prints the bytes of the file after the entries before its place.
+pub fn reads_are_right()
+    ensures { ReadsAreRight }
 {}

@@ -3,4 +3,4 @@
 
 mod laws;
 
-pub use laws::{calm_runs_answer, cores_stay_reached, logs_follow_lines, names_stay_legal};
+pub use laws::{calm_runs_answer, cores_stay_reached, logs_follow_lines, names_stay_legal, reads_are_right};
