@@ -11,3 +11,4 @@ pub mod Calm
 pub mod Orders
 pub mod LineLogs
 pub mod ReadLines
+pub mod Attempts

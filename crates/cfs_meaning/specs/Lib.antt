@@ -1,4 +1,5 @@
 pub mod Drive
+pub mod Shown
 pub mod Steps
 pub mod NameSteps
 pub mod World
@@ -10,3 +11,5 @@ pub mod Workers
 pub mod Mounting
 pub mod Play
 pub mod Laws
+pub mod Scripts
+pub mod Real

@@ -39,15 +39,18 @@ planned device writing k drive = record drive { asked = Planned device writing k
 abbrev pub number_if : Bool → ℕ → Option ℕ
 number_if there number = if there then Some number else None
 
+-- in a store of so many regions and blocks
+abbrev pub number_in : Device → ℕ → ℕ → Option ℕ
+number_in devices.Selector regions blocks = Some selector
+number_in (devices.Table copy) regions blocks = Some (table_copy copy)
+number_in (devices.Journal position) regions blocks = Some (journal_record position)
+number_in (devices.Size rec) regions blocks = Some (size_word rec)
+number_in (devices.Slot q s) regions blocks =
+    number_if (nat_lt s 16 && nat_lt (slot q s) regions) (slot q s)
+number_in (devices.Block b) regions blocks = number_if (nat_lt b blocks) (regions + b)
+
 abbrev pub number_of : Device → Drive → Option ℕ
-number_of devices.Selector drive = Some selector
-number_of (devices.Table copy) drive = Some (table_copy copy)
-number_of (devices.Journal position) drive = Some (journal_record position)
-number_of (devices.Size rec) drive = Some (size_word rec)
-number_of (devices.Slot q s) drive =
-    number_if (nat_lt s 16 && nat_lt (slot q s) (length drive.regions)) (slot q s)
-number_of (devices.Block b) drive =
-    number_if (nat_lt b (length drive.blocks)) (length drive.regions + b)
+number_of device drive = number_in device (length drive.regions) (length drive.blocks)
 
 abbrev pub plan : Device → Bool → ℕ → Way Printed
 plan device writing k = do

@@ -1,6 +1,10 @@
 //! What a run of scripts means, and what holds of every run.
 #![tactic(auto)]
 
+mod devices;
 mod laws;
+mod power;
 
+pub use devices::{keep_tag, keep_word};
 pub use laws::{calm_runs_answer, cores_stay_reached, logs_follow_lines, names_stay_legal, reads_are_right};
+pub use power::{crash, number_of, plan, stop};
