@@ -12,3 +12,4 @@ pub mod Orders
 pub mod LineLogs
 pub mod ReadLines
 pub mod Attempts
+pub mod Derived

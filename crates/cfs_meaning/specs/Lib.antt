@@ -11,5 +11,6 @@ pub mod Workers
 pub mod Mounting
 pub mod Play
 pub mod Laws
+pub mod Example
 pub mod Scripts
 pub mod Real
