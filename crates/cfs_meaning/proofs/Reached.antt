@@ -5,6 +5,9 @@ use Rattle.std.specs.List.{flat_map}
 use Rattle.cfs_core.specs.declared.inode_core.Core.{Core}
 use Rattle.cfs_core.specs.Fresh.{IsEmpty}
 use Rattle.cfs_core.proofs.Freshly.{fresh-empty}
+use Rattle.cfs_core.specs.Good.{IsGood}
+use Rattle.cfs_core.proofs.Goods.{good-kept}
+use Rattle.cfs_core_laws.proofs.Whole.{whole}
 use Rattle.cfs_core_laws.specs.Reached.{IsReached, begins, comes}
 use Rattle.cfs_dir.specs.declared.change.Change.{Change}
 use Rattle.cfs_dir.specs.declared.change.Change.TheVariants as changes
@@ -17,7 +20,7 @@ use Rattle.cfs_meaning.specs.Drive.{Drive}
 use Rattle.cfs_meaning.specs.NameSteps.{changes_of}
 use Rattle.cfs_meaning.specs.World.{File, Phase, Up, World, core_in, empty_core, file_in, new_file, with_drive}
 use Rattle.cfs_meaning.specs.Names.{files_made}
-use Rattle.cfs_meaning.specs.Laws.{AreReached, CoresStayReached, IsGiven, OfEachCore}
+use Rattle.cfs_meaning.specs.Laws.{AreReached, CoresStayReached, FilesAreGood, IsGiven, OfEachCore}
 use Rattle.cfs_meaning.specs.Play.{Step, crash_in, does, joined, mount_line, number_of, steps_so}
 use Rattle.cfs_meaning.specs.Ways.{Changes, Ends, Halt, Then, ends, follows, gives, halts, now}
 use Rattle.cfs_meaning.proofs.Keeping.{Any, Base, Keeps}
@@ -101,3 +104,12 @@ pub cores-stay : CoresStayReached
 cores-stay old new line out up (steps_so end way) reached =
     (line-kept (reached_law line.number) (reached-powers line.number) line.form old end new up
     reached way).1
+
+all-good : (files : List File) → OfEachCore Reached files →
+    OfEachCore (λ ino core. IsGood core) files
+all-good [] all = tt
+all-good (f ∷ files) all =
+    (λ up. good-kept f.core (whole (all.0 up)).kept, all-good files all.1)
+
+pub files-good : FilesAreGood
+files-good world reached = all-good world.files reached

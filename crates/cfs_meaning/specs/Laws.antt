@@ -6,7 +6,7 @@ use Rattle.cfs_file.specs.File.{answer}
 use Rattle.cfs_pmem.specs.declared.meter.Supply.TheVariants.{Steady}
 use Rattle.cfs_pmem.specs.Meter.{plans_of, supply_of}
 use Rattle.cfs_core.specs.declared.inode_core.Core.{Core}
-use Rattle.cfs_core.specs.Good.{bytes_of, file_before}
+use Rattle.cfs_core.specs.Good.{IsGood, bytes_of, file_before}
 use Rattle.cfs_core_laws.specs.Reached.{IsReached}
 use Rattle.cfs_script.specs.declared.form.Form.{Form}
 use Rattle.cfs_script.specs.declared.form.Form.TheVariants as forms
@@ -34,6 +34,11 @@ abbrev pub CoresStayReached : Type 0
 CoresStayReached =
     (old new : World) (line : Line) (out : List OutLine) → old.phase ≡ Up → Step line old out new →
     AreReached old → AreReached new
+
+-- So each file's log is legal, a read that may be served gets its answer, and every image of the
+-- core recovers the file after the log.
+abbrev pub FilesAreGood : Type 0
+FilesAreGood = (world : World) → AreReached world → OfEachCore (λ ino core. IsGood core) world.files
 
 -- ---- answers
 

@@ -1,11 +1,17 @@
 //! What holds of every run, as contracts of functions that do nothing.
 
-ghost use Rattle.cfs_meaning.specs.Laws.{CalmRunsAnswer, CoresStayReached, LogsFollowLines, NamesStayLegal, ReadsAreRight};
+ghost use Rattle.cfs_meaning.specs.Laws.{CalmRunsAnswer, CoresStayReached, FilesAreGood, LogsFollowLines, NamesStayLegal, ReadsAreRight};
 
 /// While a store is mounted, each line makes of the core of each file one that the laws of cores
 /// hold of: so each file's log is legal, and a read is answered by the file before it.
 pub fn cores_stay_reached()
     ensures { CoresStayReached }
+{}
+
+/// Such a core's log is legal, a read that may be served gets its answer, and each image of the core
+/// recovers the file after the log.
+pub fn files_are_good()
+    ensures { FilesAreGood }
 {}
 
 /// The requests on names since a mount stay a legal order, whatever a line does.
