@@ -1,12 +1,12 @@
 -- A call's list of operations on one object, and the same list attempted on a drive.
-use Rattle.std.proofs.Common.{◌≡◌, ◌∙◌, ℕ, ◌+◌, ◌<◌, Bool, true, false, not, List, [], ◌∷◌, ◌++◌, length, map, reverse, take, drop, set, refl, sym, ap, subst, cond, if◌then◌else◌, arith}
-use Rattle.std.specs.Prelude.{Result, Ok, Err, is_ok, IsTrue}
+use Rattle.std.proofs.Common.{◌≡◌, ◌∙◌, ℕ, ◌+◌, ◌<◌, Bool, true, false, List, [], ◌∷◌, ◌++◌, length, map, reverse, take, drop, set, refl, sym, ap, subst, if◌then◌else◌}
+use Rattle.std.specs.Prelude.{Result, Ok, Err, is_ok}
 use Rattle.std.proofs.lemmas.List.{reverse-append, map-append, take-append-drop, set-set, set-get_or, get_or-set_same}
 use Rattle.cfs_pmem.specs.declared.trace.Asked.{Asked}
-use Rattle.cfs_pmem.specs.Images.{Seen, WordStep, failed}
+use Rattle.cfs_pmem.specs.Images.{Seen, WordStep}
 use Rattle.cfs_pmem.specs.Meter.{Answers, IsAnswered, answer}
 use Rattle.cfs_pmem.specs.Objects.{seen_at}
-use Rattle.cfs_pmem.specs.Operations.{AllDone, Ask, Does, FrontDone, LastFails, after_all, all_allowed, answered, last_refused}
+use Rattle.cfs_pmem.specs.Operations.{Ask, Does, LastFails, after_all, all_allowed, answered, last_refused}
 use Rattle.cfs_pmem.specs.WordOps.{DoesWords, WordFails, WordOp, get, persist, put, word_asks, word_done}
 use Rattle.cfs_block.specs.BlockImages.{BlockStep}
 use Rattle.cfs_block.specs.BlockOps.{BlockFails, BlockOp, DoesBlock, block_asks, block_done, flush, get_bytes, get_tag, put_bytes, put_tag}
@@ -115,7 +115,8 @@ front-done : {Form O : Type 0} {inject : O → Op} {its_asks : O → Ask}
     (Fails : O → Seen Form → Seen Form → Type 0) →
     IsPart inject its_asks its_done its_refused place →
     ((o : O) (old new : Seen Form) → Fails o old new → new ≡ its_refused o old) →
-    (ops : List O) (asked : List Asked) (old new : Seen Form) → LastFails its_done Fails ops old new →
+    (ops : List O) (asked : List Asked) (old new : Seen Form) →
+    LastFails its_done Fails ops old new →
     IsAnswered (last_refused its_asks ops ++ asked) →
     attempt (map inject (reverse ops)) (place asked old)
     ≡ record { whole = false; drive = place (last_refused its_asks ops ++ asked) new }
@@ -133,7 +134,7 @@ front-done {inject = inject} {its_asks = its_asks} {its_done = its_done} {place 
     ∙ ap (place (answered (its_asks o) false ∷ now)) (sym (only o here new fails)))
 
 -- what is behind a refused operation is not come to
-not-reached : {O : Type 0} (inject : O → Op) (ops : List O) (left : ℕ) (drive : Drive) (end : Drive) →
+not-reached : {O : Type 0} (inject : O → Op) (ops : List O) (left : ℕ) (drive end : Drive) →
     attempt (map inject (reverse (drop left ops))) drive ≡ record { whole = false; drive = end } →
     attempt (map inject (reverse ops)) drive ≡ record { whole = false; drive = end }
 not-reached inject ops left drive end stopped =
@@ -154,11 +155,12 @@ does-attempt : {Form O T E : Type 0} {inject : O → Op} {its_asks : O → Ask}
     IsAnswered asked_new → Does its_asks its_done Fails ops result asked_old old asked_new new →
     attempt (map inject (reverse ops)) (place asked_old old)
     ≡ record { whole = is_ok result; drive = place asked_new new }
-does-attempt {its_done = its_done} {place = place} Fails part only ops (Ok value) asked_old asked_new
-    old new right does =
+does-attempt {its_done = its_done} {place = place} Fails part only ops (Ok value) asked_old
+    asked_new old new right does =
     all-done part ops asked_old old (subst IsAnswered does.all.asked right)
     ∙ ap (λ (d : Drive). record { whole = true; drive = d })
-    (ap (λ h. place h (after_all its_done ops old)) (sym does.all.asked) ∙ ap (place asked_new) (sym does.all.state))
+    (ap (λ h. place h (after_all its_done ops old)) (sym does.all.asked)
+    ∙ ap (place asked_new) (sym does.all.state))
 does-attempt {inject = inject} {its_asks = its_asks} {place = place} Fails part only ops (Err error)
     asked_old asked_new old new right does =
     let front = does.front in
@@ -188,7 +190,8 @@ region-part r drive within = record {
         (change : Seen WordStep → Seen WordStep) →
         record drive {
           asked = now;
-          regions = set (set drive.regions r seen) r (change (seen_at (set drive.regions r seen) r));
+          regions = set (set drive.regions r seen) r
+              (change (seen_at (set drive.regions r seen) r));
         }
         ≡ record drive { asked = now; regions = set drive.regions r (change seen) }
     again asked seen now change =
@@ -209,8 +212,8 @@ pub attempts-words : {T E : Type 0} (ops : List WordOp) (result : Result T E)
 unfolding region_in
 attempts-words ops result asked_old asked_new old new right does r drive shows =
     let own : Does (word_asks r) word_done WordFails ops result asked_old old asked_new new =
-        subst (λ d. Does (word_asks d) word_done WordFails ops result asked_old old asked_new new)
-        shows.device does in
+    subst (λ d. Does (word_asks d) word_done WordFails ops result asked_old old asked_new new)
+    shows.device does in
     ap (attempt (on_region r ops)) (here shows)
     ∙ does-attempt WordFails (region-part r drive shows.within) word-only ops result asked_old
     asked_new old new right own
@@ -268,9 +271,9 @@ pub attempts-block : {T E : Type 0} (ops : List BlockOp) (result : Result T E)
 unfolding block_in
 attempts-block ops result asked_old asked_new old new right does b drive shows =
     let own : Does (block_asks (length drive.regions + b)) block_done (BlockFails true) ops result
-        asked_old old asked_new new =
-        subst (λ d. Does (block_asks d) block_done (BlockFails true) ops result asked_old old
-        asked_new new) shows.device does in
+    asked_old old asked_new new =
+    subst (λ d. Does (block_asks d) block_done (BlockFails true) ops result asked_old old
+    asked_new new) shows.device does in
     ap (attempt (on_block b ops)) (here shows)
     ∙ does-attempt (BlockFails true) (block-part b drive shows.within) block-only ops result
     asked_old asked_new old new right own

@@ -1,8 +1,6 @@
 -- Without stops and plans no line answers that a device failed.
-use Rattle.std.proofs.Common.{◌≡◌, ℕ, Bool, true, false, not, Option, Some, None, List, [], ◌∷◌, ◌++◌, length, refl, sym, ap, ◌∙◌, subst, if◌then◌else◌}
+use Rattle.std.proofs.Common.{◌≡◌, ℕ, Bool, true, false, not, Option, Some, None, List, [], ◌∷◌, ◌++◌, refl, sym, ap, ◌∙◌, subst, if◌then◌else◌}
 use Rattle.std.specs.Prelude.{Result, Ok, Err}
-use Rattle.cfs_pmem.specs.declared.trace.Asked.{Asked}
-use Rattle.cfs_pmem.specs.declared.trace.Asked.TheVariants as asked
 use Rattle.cfs_pmem.specs.declared.meter.Plan.{Plan}
 use Rattle.cfs_pmem.specs.declared.meter.Supply.{Supply}
 use Rattle.cfs_pmem.specs.declared.meter.Supply.TheVariants.{Steady}
@@ -14,13 +12,11 @@ use Rattle.cfs_print.specs.declared.out_line.OutLine.{OutLine}
 use Rattle.cfs_print.specs.declared.printed.Printed.{Printed}
 use Rattle.cfs_print.specs.declared.printed.Printed.TheVariants as answers
 use Rattle.cfs_meaning.specs.Drive.{Attempt, Block, Drive, Op, Word, asks, attempt, is_allowed, made, noted, refused}
-use Rattle.cfs_meaning.specs.World.{Down, Failed, Phase, Up, World, with_drive}
-use Rattle.cfs_meaning.specs.Files.{has_no_power}
-use Rattle.cfs_meaning.specs.Mounting.{bring_home, mount_steps}
-use Rattle.cfs_meaning.specs.Laws.{AreCalm, AreGiven, CalmRunsAnswer, IsCalm, IsGiven, is_calm}
-use Rattle.cfs_meaning.specs.Play.{Run, Step, answer_of, crash_in, does, goes_on, joined, mount, mount_failed, mount_line, mounted, printed, run_ends, steps_so, unless_off}
-use Rattle.cfs_meaning.specs.Ways.{Changes, Fault, Halt, Says, Waits}
-use Rattle.cfs_meaning.proofs.Keeping.{Any, Base, EndsAs, IsSaid, Keeps, keep-changes, keep-each, keep-give, keep-look, keep-say, keep-steps, keep-then, keep-when}
+use Rattle.cfs_meaning.specs.World.{Down, Failed, Phase, Up, World}
+use Rattle.cfs_meaning.specs.Laws.{AreGiven, CalmRunsAnswer, IsCalm, IsGiven, is_calm}
+use Rattle.cfs_meaning.specs.Play.{Step, does, goes_on, mount, mount_line, printed, run_ends, steps_so, unless_off}
+use Rattle.cfs_meaning.specs.Ways.{Fault, Halt, Says, Waits}
+use Rattle.cfs_meaning.proofs.Keeping.{EndsAs, IsSaid, Keeps, keep-give, keep-look, keep-say, keep-then}
 use Rattle.cfs_meaning.proofs.Kept.{Law}
 use Rattle.cfs_meaning.proofs.KeptLines.{IsGivenIfAny, is_plain, kept-plain}
 use Rattle.cfs_meaning.proofs.Lines.{keep-moved, kept-home}
@@ -159,7 +155,8 @@ step-given {new = new} {line = line} calm quiet (steps_so end way) =
 
 pub calm-runs : CalmRunsAnswer
 calm-runs old new [] [] calm lines run_ends = (tt, calm)
-calm-runs old new lines outs calm quiet (goes_on {mid = mid} {lines = rest} {here = here} {later = later} step more) =
+calm-runs old new lines outs calm quiet
+    (goes_on {mid = mid} {lines = rest} {here = here} {later = later} step more) =
     let first = step-given calm quiet.0 step in
     let others = calm-runs mid new rest later first.1 quiet.1 more in
     (both-given here later first.0 others.0, others.1)

@@ -1,26 +1,21 @@
 -- The example's run, line by line.
-use Rattle.std.proofs.Common.{◌≡◌, ◌∙◌, ℕ, Bool, true, false, Option, Some, None, List, [], ◌∷◌, ◌++◌, refl, sym, ap, subst, if◌then◌else◌}
-use Rattle.std.specs.Prelude.{Result, Ok, Err}
-use Rattle.cfs_core.specs.declared.event.Event.TheVariants as events
-use Rattle.cfs_dir.specs.declared.change.Change.{Change}
+use Rattle.std.proofs.Common.{true, false, Some, None, List, [], ◌∷◌, refl, ap, subst, if◌then◌else◌}
+use Rattle.std.specs.Prelude.{Ok}
 use Rattle.cfs_pmem.specs.Meter.{is_off}
 use Rattle.cfs_print.specs.declared.printed.Printed.{Printed}
 use Rattle.cfs_print.specs.declared.printed.Printed.TheVariants as answers
-use Rattle.cfs_print.specs.declared.out_line.OutLine.{OutLine}
 use Rattle.cfs_script.specs.declared.line.Line.{Line}
-use Rattle.cfs_script.specs.declared.form.Form.{Form}
 use Rattle.cfs_words.specs.declared.flags.Flags.{Flags}
 use Rattle.cfs_script.specs.declared.form.Form.TheVariants as forms
 use Rattle.cfs_meaning.specs.Drive.{Drive, Op, attempt}
 use Rattle.cfs_meaning.specs.World.{Descriptor, World}
 use Rattle.cfs_meaning.specs.Laws.{IsCalm}
-use Rattle.cfs_meaning.specs.Example.{TheLinesAnswer, its_answers, new_world, the_lines}
+use Rattle.cfs_meaning.specs.Example.{TheLinesAnswer, new_world}
 use Rattle.cfs_meaning.specs.Files.{clear_way, serve_helped, serves, works}
 use Rattle.cfs_file.specs.declared.request.Request.TheVariants as requests
 use Rattle.cfs_meaning.specs.Inode.{admit_read, apply, comes, dispatch, finish, run_job, serve}
-use Rattle.cfs_meaning.specs.Names.{store_change}
-use Rattle.cfs_meaning.specs.Play.{Run, Step, does, goes_on, printed, run_ends, steps_so, unless_off}
-use Rattle.cfs_meaning.specs.Ways.{Changes, Halt, Tries, Way, changes, counts, follows, gives, now, rests, steps, tried, well}
+use Rattle.cfs_meaning.specs.Play.{Step, does, goes_on, run_ends, steps_so}
+use Rattle.cfs_meaning.specs.Ways.{Tries, changes, counts, follows, gives, now, rests, steps, tried, well}
 use Rattle.cfs_meaning.proofs.Calm.{all-allowed}
 
 -- ---- calm operations
@@ -56,17 +51,20 @@ abbrev flags : Flags
 flags = record { read = true; write = true; create = true; exclusive = false; append = false }
 
 abbrev line-two : (drive : Drive) → IsCalm drive →
-    (new : World) × does 2 (forms.Open 1 ((97 ∷ []) ∷ []) flags 420) (line-one drive).0 (Ok (Some (answers.Opened 1 0 2))) new
-line-two drive calm = (_,
-    follows (follows now
-    -- the request is asked
-    (follows (follows now (follows now (follows gives (follows
-    -- its change is stored
-    (follows (follows now (follows gives (follows now (follows gives (follows (try-calm calm)
-    (follows changes gives)))))) gives)
-    (follows changes gives)))))
-    -- and it is opened
-    (follows now (follows changes gives)))) gives)
+    (new : World) × does 2 (forms.Open 1 ((97 ∷ []) ∷ []) flags 420) (line-one drive).0
+    (Ok (Some (answers.Opened 1 0 2))) new
+line-two drive calm = (
+  _,
+  follows (follows now
+      -- the request is asked
+      (follows (follows now (follows now (follows gives (follows
+      -- its change is stored
+      (follows (follows now (follows gives (follows now (follows gives (follows (try-calm calm)
+      (follows changes gives)))))) gives)
+      (follows changes gives)))))
+      -- and it is opened
+      (follows now (follows changes gives)))) gives,
+)
 
 abbrev line-three : (drive : Drive) (calm : IsCalm drive) →
     (new : World) × does 3 (forms.Pwrite 1 0 0 (104 ∷ 105 ∷ [])) (line-two drive calm).0
@@ -75,20 +73,22 @@ line-three drive calm =
     let one = next-calm _ _ calm in
     let two = next-calm _ _ one in
     let three = next-calm _ _ two in
-    let four = next-calm _ _ three in
-    (_, follows (follows now
-    (follows (follows (follows now gives)
-    (follows gives gives))
-    (follows gives (follows gives
-    (follows (follows (rests (follows changes (follows now gives))) gives)
-    (follows (follows now (follows (steps-calm one) (follows now (follows gives (follows gives
-    (follows (follows (steps-calm two) gives)
-    (follows (follows now gives) (follows now (follows gives
-    (follows (follows (follows now (follows changes (follows (try-calm three)
-    (follows (comes refl) gives)))) gives)
-    (follows (follows (try-calm four) (follows (comes refl) (follows changes gives)))
-    (follows now (follows gives gives)))))))))))))
-    (follows gives (follows now gives)))))))) gives)
+    let four = next-calm _ _ three in (
+      _,
+      follows (follows now
+          (follows (follows (follows now gives)
+          (follows gives gives))
+          (follows gives (follows gives
+          (follows (follows (rests (follows changes (follows now gives))) gives)
+          (follows (follows now (follows (steps-calm one) (follows now (follows gives (follows gives
+          (follows (follows (steps-calm two) gives)
+          (follows (follows now gives) (follows now (follows gives
+          (follows (follows (follows now (follows changes (follows (try-calm three)
+          (follows (comes refl) gives)))) gives)
+          (follows (follows (try-calm four) (follows (comes refl) (follows changes gives)))
+          (follows now (follows gives gives)))))))))))))
+          (follows gives (follows now gives)))))))) gives,
+    )
 
 -- ---- the read, which first brings the write home
 
@@ -118,9 +118,11 @@ written drive calm =
     let three = next-calm _ _ two in
     let four = next-calm _ _ three in
     let five = next-calm _ _ four in
-    let six = next-calm _ _ five in
-    (_, follows now (follows now (follows (steps-calm five) (follows (try-calm six)
-    (follows now (follows (comes refl) gives))))))
+    let six = next-calm _ _ five in (
+      _,
+      follows now (follows now (follows (steps-calm five) (follows (try-calm six)
+          (follows now (follows (comes refl) gives))))),
+    )
 
 abbrev flushed : (drive : Drive) (calm : IsCalm drive) →
     (new : World) × apply 2 1 (written drive calm).0 (Ok tt) new
@@ -146,10 +148,12 @@ finished drive calm =
     let seven = next-calm _ _ six in
     let eight = next-calm _ _ seven in
     let nine = next-calm _ _ eight in
-    let ten = next-calm _ _ nine in
-    (_, follows now (follows (follows now
-    (follows (follows (try-calm eight) (follows gives (follows (try-calm nine) gives)))
-    (follows (follows now (try-calm ten)) (follows (comes refl) changes)))) gives))
+    let ten = next-calm _ _ nine in (
+      _,
+      follows now (follows (follows now
+          (follows (follows (try-calm eight) (follows gives (follows (try-calm nine) gives)))
+          (follows (follows now (try-calm ten)) (follows (comes refl) changes)))) gives),
+    )
 
 abbrev worked : (drive : Drive) (calm : IsCalm drive) →
     run_job 2 1 (admitted drive calm).0 (Ok false) (finished drive calm).0
@@ -226,9 +230,10 @@ the-lines-answer drive calm =
     let nine = next-calm _ _ eight in
     let ten = next-calm _ _ nine in
     let eleven = next-calm _ _ ten in
-    let twelve = next-calm _ _ eleven in
-    ((served drive calm).0,
-    goes_on (steps_so (Ok None) (line-one drive).1)
-    (goes_on (prints one (line-two drive calm).1)
-    (goes_on (prints five (line-three drive calm).1)
-    (goes_on (prints twelve (line-four drive calm)) run_ends))))
+    let twelve = next-calm _ _ eleven in (
+      (served drive calm).0,
+      goes_on (steps_so (Ok None) (line-one drive).1)
+          (goes_on (prints one (line-two drive calm).1)
+          (goes_on (prints five (line-three drive calm).1)
+          (goes_on (prints twelve (line-four drive calm)) run_ends))),
+    )

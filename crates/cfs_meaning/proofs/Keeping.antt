@@ -1,6 +1,6 @@
 -- What a line keeps: a law that holds of the world before each part of a line holds behind it, and
 -- lets the part end only as it may.
-use Rattle.std.proofs.Common.{◌≡◌, ℕ, suc, Bool, true, false, List, [], ◌∷◌, length, Option, Some, None, refl}
+use Rattle.std.proofs.Common.{◌≡◌, ℕ, Bool, true, false, List, [], ◌∷◌, length, Option, Some, None, refl}
 use Rattle.std.specs.Prelude.{Result, Ok, Err}
 use Rattle.cfs_core.specs.declared.inode_core.Core.{Core}
 use Rattle.cfs_print.specs.declared.printed.Printed.{Printed}
@@ -8,7 +8,7 @@ use Rattle.cfs_print.specs.declared.printed.Printed.TheVariants as answers
 use Rattle.cfs_meaning.specs.Drive.{Op, attempt}
 use Rattle.cfs_meaning.specs.World.{World, empty_core}
 use Rattle.cfs_meaning.specs.Laws.{OfEachCore}
-use Rattle.cfs_meaning.specs.Ways.{Changes, changes, Ends, Fault, Gives, Halt, Mends, Now, Repeats, Says, Shrugs, Then, Tries, Waits, Way, breaks, breaks_later, choose, counts, done, each, end_with, ends, follows, give, gives, halts, known, mends, never, now, only_if, refuse_if, rests, say, says, shrugs, steps, tried, unless_fault, waits, well, when, whole, ◌>>=◌, ◌>>◌}
+use Rattle.cfs_meaning.specs.Ways.{Changes, changes, Ends, Fault, Gives, Halt, Mends, Now, Repeats, Says, Shrugs, Then, Tries, Waits, Way, breaks, breaks_later, choose, counts, each, end_with, ends, follows, give, gives, halts, known, mends, never, now, only_if, refuse_if, rests, say, says, shrugs, steps, tried, unless_fault, waits, well, when, whole, ◌>>=◌}
 
 -- A change that is no operation of a device, no event of a core and no request on names: a core
 -- stays, or its file begins empty.
@@ -112,7 +112,8 @@ pub keep-look : {base : Base} {A : Type 0} {S : A → Type 0} {next : World → 
     ((world : World) → Keeps base S (next world)) → Keeps base S (Now >>= next)
 keep-look more = keep-then keep-now (λ world any. more world)
 
-changes-by : (base : Base) {change : World → World} → ((world : World) → IsQuiet world (change world)) →
+changes-by : (base : Base) {change : World → World} →
+    ((world : World) → IsQuiet world (change world)) →
     (old : World) (end : Result (Unit {0}) Halt) (new : World) → base.Holds old →
     Changes change old end new → EndsAs base Any end × base.Holds new
 changes-by base quiet old end new holds changes = (tt, base.quiet _ _ (quiet old) holds)

@@ -1,5 +1,5 @@
 -- The lines of callers on files keep each law.
-use Rattle.std.proofs.Common.{◌≡◌, ℕ, Bool, true, false, Option, Some, None, List, [], ◌∷◌, refl}
+use Rattle.std.proofs.Common.{ℕ, Bool, true, false, Option, Some, None, List}
 use Rattle.std.specs.Prelude.{Result, Ok, Err, if◌then◌else◌}
 use Rattle.cfs_file.specs.declared.request.Request.{Request}
 use Rattle.cfs_print.specs.declared.printed.Printed.{Printed}
@@ -11,8 +11,8 @@ use Rattle.cfs_meaning.specs.NameSteps.{closing}
 use Rattle.cfs_meaning.specs.World.{Descriptor, World, core_in}
 use Rattle.cfs_meaning.specs.Inode.{Absent, Behind, Ready, Verdict, serve_verdict}
 use Rattle.cfs_meaning.specs.Ways.{Halt, Waits, Way, known}
-use Rattle.cfs_meaning.specs.Files.{Defers, Helps, admit_write, append, clear_way, close, collect, collected, defers, fails, fails_first, faults, find_room, ftruncate, help_lowest, help_some, helps_first, in_the_way, is_behind, is_out_itself, list_queue, lseek, make_room, opened, opened_to_read, opened_to_write, post, pwrite, read_or_sync, room_or_full, say_served, say_wrote, serve_helped, serve_posted, serves, skips, stage_and_admit, works, works_on, write}
-use Rattle.cfs_meaning.proofs.Keeping.{Any, EndsAs, IsQuiet, IsSaid, Keeps, keep-changes, keep-choose, keep-each, keep-end, keep-give, keep-known, keep-look, keep-mends, keep-refuse, keep-repeats, keep-say, keep-steps, keep-then, keep-when}
+use Rattle.cfs_meaning.specs.Files.{Defers, Helps, admit_write, append, clear_way, close, collect, collected, defers, fails, fails_first, faults, find_room, ftruncate, help_lowest, help_some, helps_first, in_the_way, is_behind, is_out_itself, list_queue, lseek, make_room, opened, opened_to_read, opened_to_write, post, pwrite, read_or_sync, room_or_full, say_served, serve_helped, serve_posted, serves, skips, stage_and_admit, works, works_on, write}
+use Rattle.cfs_meaning.proofs.Keeping.{Any, EndsAs, IsQuiet, IsSaid, Keeps, keep-changes, keep-choose, keep-each, keep-end, keep-give, keep-look, keep-mends, keep-refuse, keep-repeats, keep-say, keep-steps, keep-then, keep-when}
 use Rattle.cfs_meaning.proofs.KeptInode.{kept-admit, kept-drop, kept-job, kept-read, kept-serve, kept-settle, kept-skip}
 use Rattle.cfs_meaning.proofs.KeptNames.{kept-ask-purge}
 use Rattle.cfs_meaning.proofs.Kept.{Law}
@@ -147,7 +147,8 @@ kept-way law ino place Absent w = keep-give tt
 kept-way law ino place Ready w = keep-give tt
 
 pub kept-clear : (law : Law) (ino place : ℕ) → Keeps law.base Any (clear_way ino place)
-kept-clear law ino place = keep-look (λ w. kept-way law ino place (serve_verdict (core_in w ino) place) w)
+kept-clear law ino place =
+    keep-look (λ w. kept-way law ino place (serve_verdict (core_in w ino) place) w)
 
 pub kept-served : (law : Law) (ino place : ℕ) → Keeps law.base Any (serve_helped ino place)
 kept-served law ino place =
@@ -160,11 +161,10 @@ defers-by : (law : Law) {ino place : ℕ} {way : Way (List ℕ)} {move : World �
     Defers ino place way move old end new → EndsAs law.base Any end × law.base.Holds new
 defers-by law {move} kept quiet old end new holds (serves {new = mid} {bytes = bytes} done) =
     (tt, law.base.quiet mid (move mid) (quiet mid) (kept.by old (Ok bytes) mid holds done).1)
-defers-by law {move} kept quiet old end new holds (defers {new = mid} {q = q} waits) =
-    (
-      law.base.says _ tt,
-      law.base.quiet mid (move mid) (quiet mid) (kept.by old (Err (Waits q)) mid holds waits).1,
-    )
+defers-by law {move} kept quiet old end new holds (defers {new = mid} {q = q} waits) = (
+  law.base.says _ tt,
+  law.base.quiet mid (move mid) (quiet mid) (kept.by old (Err (Waits q)) mid holds waits).1,
+)
 defers-by law kept quiet old end new holds (faults fault) = kept.by _ _ _ holds fault
 
 kept-say : (law : Law) (ino place : ℕ) (bytes : List ℕ) →
@@ -194,7 +194,8 @@ pub kept-posted : (law : Law) (d : Descriptor) (place : ℕ) →
 kept-posted law d place =
     keep-look (λ w.
     keep-then (keep-refuse _ _ tt) (λ u a.
-    keep-then (kept-served law d.grant.ino place) (λ bytes a. kept-say law d.grant.ino place bytes)))
+    keep-then (kept-served law d.grant.ino place) (λ bytes a.
+    kept-say law d.grant.ino place bytes)))
 
 -- ---- seek, queue, close
 

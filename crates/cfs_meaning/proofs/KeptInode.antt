@@ -1,12 +1,12 @@
 -- What is done to one file keeps each law.
-use Rattle.std.proofs.Common.{◌≡◌, ℕ, Bool, true, false, Option, Some, None, List, [], ◌∷◌, refl}
+use Rattle.std.proofs.Common.{◌≡◌, ℕ, Bool, true, false, Option, Some, None, List, refl}
 use Rattle.cfs_file.specs.declared.entry.Entry.{Entry}
 use Rattle.cfs_file.specs.declared.request.Request.{Request}
 use Rattle.cfs_core.specs.declared.doubt.Doubt.{Doubt}
 use Rattle.cfs_core.specs.declared.event.SizeEnd.{SizeEnd}
 use Rattle.cfs_core.specs.declared.event.SizeEnd.TheVariants as sizes
 use Rattle.cfs_core.specs.declared.state.Lease.{Lease}
-use Rattle.cfs_meaning.specs.World.{Descriptor, Held, World}
+use Rattle.cfs_meaning.specs.World.{Descriptor, Held}
 use Rattle.cfs_meaning.specs.Inode.{admit, admit_read, apply, back, back_unless, clear_size, close_or_apply, dispatch, drop_read, finish, finish_with, flush_block, mark, next_step, open_gate, purge, retire, run_job, serve, set_size, settle, settle_doubt, skip, tag, tag_with, trim, trim_at, try_to_close, untag, write_block}
 use Rattle.cfs_meaning.proofs.Keeping.{Any, Keeps, keep-changes, keep-each, keep-end, keep-give, keep-look, keep-mends, keep-steps, keep-then, keep-tries, keep-unless, keep-when}
 use Rattle.cfs_meaning.proofs.Kept.{Law, keep-event}

@@ -1,21 +1,22 @@
--- Each line of a mounted store keeps each law, but for those that set the power or a plan, the crash
+-- Each line of a mounted store keeps each law, but for those that set the power or a plan, the
+-- crash
 -- and the caller's.
-use Rattle.std.proofs.Common.{◌≡◌, ℕ, Bool, true, false, Option, Some, None, List, [], ◌∷◌, refl, ◌+◌}
-use Rattle.std.specs.Prelude.{Result, Ok, Err, is_some, if◌then◌else◌}
+use Rattle.std.proofs.Common.{◌≡◌, ℕ, Bool, true, false, Option, Some, None, List, [], ◌∷◌, ◌+◌}
+use Rattle.std.specs.Prelude.{if◌then◌else◌}
 use Rattle.cfs_cred.specs.declared.credential.Credential.{Credential}
 use Rattle.cfs_print.specs.declared.printed.Printed.{Printed}
 use Rattle.cfs_script.specs.declared.form.Form.{Form}
 use Rattle.cfs_script.specs.declared.form.Form.TheVariants as forms
 use Rattle.cfs_requests.specs.Steps.{makes_directory, moves_node, opens_file, removes_directory, unlinks_file}
-use Rattle.cfs_meaning.specs.World.{Down, Failed, Phase, Up, World, core_in}
+use Rattle.cfs_meaning.specs.World.{Down, Failed, Phase, Up, core_in}
 use Rattle.cfs_meaning.specs.Inode.{Absent, Behind, Ready, Verdict, verdict}
 use Rattle.cfs_print.specs.declared.printed.Printed.TheVariants.{Fine, More}
 use Rattle.cfs_meaning.specs.Laws.{IsGiven}
 use Rattle.cfs_meaning.specs.Files.{find_room, room_or_full}
-use Rattle.cfs_meaning.specs.Workers.{Item, apply_line, chosen, dispatch_by, dispatch_line, do_item, drain, finish_line, say_turn, settle_line, skip_line, take_turn, there, trim_each, trim_line, turn, turn_line, work}
+use Rattle.cfs_meaning.specs.Workers.{Item, apply_line, chosen, dispatch_by, dispatch_line, do_item, drain, finish_line, say_turn, settle_line, skip_line, take_turn, there, trim_each, trim_line, turn, work}
 use Rattle.cfs_meaning.specs.Play.{by, does, up, while_up}
-use Rattle.cfs_meaning.specs.Ways.{Halt, Now, Then, Way, ends, follows, give, now, ◌>>=◌}
-use Rattle.cfs_meaning.proofs.Keeping.{Any, Base, EndsAs, Keeps, keep-changes, keep-choose, keep-each, keep-give, keep-look, keep-never, keep-now, keep-refuse, keep-repeats, keep-say, keep-then}
+use Rattle.cfs_meaning.specs.Ways.{Way}
+use Rattle.cfs_meaning.proofs.Keeping.{Any, Keeps, keep-changes, keep-choose, keep-give, keep-look, keep-never, keep-now, keep-refuse, keep-repeats, keep-say, keep-then}
 use Rattle.cfs_meaning.proofs.KeptInode.{kept-apply, kept-dispatch, kept-finish, kept-job, kept-settle, kept-skip, kept-trim}
 use Rattle.cfs_meaning.proofs.KeptNames.{kept-ask, kept-ask-purge, kept-made, kept-named, kept-open}
 use Rattle.cfs_meaning.proofs.KeptFiles.{kept-close-fd, kept-full, kept-listed, kept-opened, kept-post, kept-posted, kept-pwrite, kept-read-or-sync, kept-room, kept-seek, kept-to-read, kept-to-write, kept-truncate, kept-write}

@@ -1,10 +1,9 @@
 -- What is done to the tree keeps each law.
-use Rattle.std.proofs.Common.{◌≡◌, ℕ, Bool, true, false, Option, Some, None, List, [], ◌∷◌, length, refl, ap, ◌∙◌}
+use Rattle.std.proofs.Common.{◌≡◌, ℕ, Bool, true, false, Option, Some, None, length, refl, ap, ◌∙◌}
 use Rattle.std.specs.Prelude.{Result, Ok, Err, if◌then◌else◌, is_none}
 use Rattle.cfs_dir.specs.declared.change.Change.{Change}
 use Rattle.cfs_requests.specs.Steps.{NameAnswer, NameRequest}
 use Rattle.cfs_requests.specs.Steps as names
-use Rattle.cfs_print.specs.declared.printed.Printed.{Printed}
 use Rattle.cfs_print.specs.declared.printed.Printed.TheVariants.{NoNumber, NoRecord}
 use Rattle.cfs_dir.specs.declared.posix.Posix.TheVariants as posix
 use Rattle.cfs_requests.specs.declared.name_refusal.NameRefusal.{NameRefusal}
@@ -13,7 +12,7 @@ use Rattle.cfs_meaning.specs.Laws.{IsGiven}
 use Rattle.cfs_meaning.specs.NameSteps.{Order, changes_of, refusal_of, step_of}
 use Rattle.cfs_meaning.specs.World.{World}
 use Rattle.cfs_meaning.specs.Names.{ask, ask_and_purge, checkpoint, dying, free_record, log_step, open_with, purge_all, refusal_answer, say_made, say_named, step_in, store_change}
-use Rattle.cfs_meaning.specs.Ways.{Changes, changes, Halt, Now, Then, Way, each, ends, follows, give, gives, known, now, ◌>>=◌, ◌>>◌}
+use Rattle.cfs_meaning.specs.Ways.{Changes, changes, Halt, Then, Way, each, ends, follows, give, gives, known, now, ◌>>=◌, ◌>>◌}
 use Rattle.cfs_meaning.proofs.Keeping.{Any, Base, EndsAs, IsSaid, Keeps, keep-changes, keep-each, keep-give, keep-known, keep-look, keep-never, keep-only, keep-shrugs, keep-steps, keep-then, keep-tries, keep-unless, keep-when}
 use Rattle.cfs_meaning.proofs.KeptInode.{kept-purge}
 use Rattle.cfs_meaning.proofs.Kept.{Law}
@@ -63,7 +62,8 @@ both one other = record {
       let a = one.tries ops world holds.0 in
       let b = other.tries ops world holds.1 in
       ((a.0, b.0), (a.1, b.1));
-  quiet = λ old new quiet holds. (one.quiet old new quiet holds.0, other.quiet old new quiet holds.1);
+  quiet = λ old new quiet holds.
+      (one.quiet old new quiet holds.0, other.quiet old new quiet holds.1);
   fault = λ may. (one.fault may.0, other.fault may.1);
   waits = λ place. (one.waits place, other.waits place);
   says = λ answer given. (one.says answer given, other.says answer given);
@@ -96,12 +96,14 @@ log-by : (law : Law) (queues : ℕ) (order : Order) (c : ℕ) (request : NameReq
     (same_names queues order).Holds old →
     Changes (log_step c law.line request rec step) old end new →
     EndsAs law.base Any end × law.base.Holds new
-log-by law queues order c request rec step is old end new holds same changes =
-    (tt, law.asks c request rec step old (
+log-by law queues order c request rec step is old end new holds same changes = (
+  tt,
+  law.asks c request rec step old (
       ap (λ (k : ℕ). step_of k old.names.now c request rec) same.0
       ∙ ap (λ (n : Order). step_of queues n c request rec) same.1
       ∙ is
-    ) holds)
+      ) holds,
+)
 
 log-then-by : (law : Law) (queues : ℕ) (order : Order) (c : ℕ) (request : NameRequest)
     (rec : Option ℕ) (step : NameAnswer × Order) → step_of queues order c request rec ≡ Some step →

@@ -1,19 +1,16 @@
 -- The logs follow the lines.
-use Rattle.std.proofs.Common.{◌≡◌, ℕ, ◌≤◌, Bool, true, false, Option, Some, None, List, [], ◌∷◌, ◌++◌, refl, sym, subst, arith}
+use Rattle.std.proofs.Common.{◌≡◌, ℕ, ◌≤◌, true, false, Some, None, List, [], ◌∷◌, ◌++◌, arith}
 use Rattle.cfs_file.specs.declared.entry.Entry.{Entry}
 use Rattle.cfs_core.specs.declared.event.End.TheVariants as ends
 use Rattle.cfs_core.specs.declared.event.Event.{Event}
 use Rattle.cfs_core.specs.declared.event.Event.TheVariants as events
-use Rattle.cfs_core.specs.declared.event.SizeEnd.{SizeEnd}
 use Rattle.cfs_core.specs.declared.event.SizeEnd.TheVariants as sizes
 use Rattle.cfs_core.specs.declared.inode_core.Core.{Core}
-use Rattle.cfs_core.specs.After.{after, with_size}
-use Rattle.cfs_script.specs.declared.line.Line.{Line}
-use Rattle.cfs_print.specs.declared.out_line.OutLine.{OutLine}
+use Rattle.cfs_core.specs.After.{after}
 use Rattle.cfs_meaning.specs.NameSteps.{changes_of}
-use Rattle.cfs_meaning.specs.World.{File, Up, World, core_in, empty_core}
+use Rattle.cfs_meaning.specs.World.{File, core_in}
 use Rattle.cfs_meaning.specs.Laws.{AreLogsOfLines, AreOfLines, LogsFollowLines, OfEachCore}
-use Rattle.cfs_meaning.specs.Play.{Step, steps_so}
+use Rattle.cfs_meaning.specs.Play.{steps_so}
 use Rattle.cfs_meaning.proofs.Keeping.{Any}
 use Rattle.cfs_meaning.proofs.Kept.{IsOfLine, Law}
 use Rattle.cfs_meaning.proofs.Lines.{Powers, line-kept}

@@ -1,17 +1,16 @@
 -- The lines of power, of the crash and of callers, beside those that work on files and the tree.
-use Rattle.std.proofs.Common.{◌≡◌, ℕ, Bool, true, false, Option, Some, None, refl, sym, ap, subst}
+use Rattle.std.proofs.Common.{◌≡◌, ℕ, Bool, true, false, Option, Some, refl, sym, ap, subst}
 use Rattle.std.specs.Prelude.{Result, Ok, Err}
 use Rattle.cfs_print.specs.declared.printed.Printed.{Printed}
 use Rattle.cfs_print.specs.declared.printed.Printed.TheVariants as answers
 use Rattle.cfs_words.specs.declared.device.Device.{Device}
 use Rattle.cfs_script.specs.declared.form.Form.{Form}
 use Rattle.cfs_script.specs.declared.form.Form.TheVariants as forms
-use Rattle.cfs_meaning.specs.Drive.{Drive}
 use Rattle.cfs_meaning.specs.World.{Down, Failed, Phase, Up, World, with_drive}
 use Rattle.cfs_meaning.specs.Mounting.{mount_steps}
 use Rattle.cfs_meaning.specs.Laws.{IsGiven}
 use Rattle.cfs_meaning.specs.Play.{crash_in, does, joined, mount_line, plan, planned, stopped}
-use Rattle.cfs_meaning.specs.Ways.{Changes, changes, Ends, Fault, Gives, Halt, Says, Then, ends, follows, gives, halts, now}
+use Rattle.cfs_meaning.specs.Ways.{Changes, changes, Fault, Halt, Says, ends, follows, gives, halts, now}
 use Rattle.cfs_meaning.proofs.Keeping.{Any, Base, EndsAs, Keeps, keep-each, keep-give, keep-known, keep-look, keep-steps, keep-then, keep-when}
 use Rattle.cfs_meaning.proofs.KeptLines.{IsGivenIfAny, is_plain, kept-plain}
 use Rattle.cfs_meaning.proofs.Kept.{Law}
@@ -138,6 +137,6 @@ line-kept law powers form old end new up holds way = by-kind (is_mount form) ref
     by-kind false is = (kept-form law powers form is).by old end new holds way
     by-kind true is =
         let here : does law.line forms.Mount old end new =
-            subst (λ f. does law.line f old end new) (only-mount form is) way in
+        subst (λ f. does law.line f old end new) (only-mount form is) way in
         let same = mount-up law.line old end new up here in
         (says-kept law end same.0, subst law.base.Holds (sym same.1) holds)

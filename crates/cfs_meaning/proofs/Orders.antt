@@ -1,16 +1,12 @@
 -- The requests on names stay a legal order.
-use Rattle.std.proofs.Common.{◌≡◌, ℕ, Bool, true, false, Option, Some, None, List, [], ◌∷◌, ◌++◌, length, refl, sym, subst}
-use Rattle.std.specs.Prelude.{Result}
+use Rattle.std.proofs.Common.{◌≡◌, ℕ, Bool, true, false, List, length, refl, sym, subst}
 use Rattle.cfs_requests.specs.Steps.{NameEntry}
 use Rattle.cfs_requests.proofs.Orders.{orders-go-on}
 use Rattle.cfs_script.specs.declared.form.Form.{Form}
-use Rattle.cfs_script.specs.declared.form.Form.TheVariants as forms
-use Rattle.cfs_script.specs.declared.line.Line.{Line}
-use Rattle.cfs_print.specs.declared.out_line.OutLine.{OutLine}
 use Rattle.cfs_meaning.specs.NameSteps.{AreInOrder, Order}
-use Rattle.cfs_meaning.specs.World.{Down, Failed, Phase, Up, World}
+use Rattle.cfs_meaning.specs.World.{Down, Failed, Phase, Up}
 use Rattle.cfs_meaning.specs.Laws.{AreNamesLegal, IsGiven, NamesStayLegal}
-use Rattle.cfs_meaning.specs.Play.{Step, does, mount, mount_line, steps_so}
+use Rattle.cfs_meaning.specs.Play.{does, mount, mount_line, steps_so}
 use Rattle.cfs_meaning.proofs.Keeping.{Any, Keeps, keep-give, keep-look, keep-say, keep-then}
 use Rattle.cfs_meaning.proofs.Kept.{Law}
 use Rattle.cfs_meaning.proofs.KeptLines.{IsGivenIfAny}
@@ -70,7 +66,8 @@ kept-line line form = by-kind (is_mount form) refl
         Keeps (order_law line).base IsGivenIfAny (does line form)
     by-kind false is = kept-form (order_law line) (order-powers line) form is
     by-kind true is =
-        subst (λ f. Keeps (order_law line).base IsGivenIfAny (does line f)) (sym (only-mount form is))
+        subst (λ f. Keeps (order_law line).base IsGivenIfAny (does line f))
+        (sym (only-mount form is))
         (keep-then (keep-look (λ w. kept-phase line w.phase)) (λ answer given. keep-give given))
 
 pub names-stay : NamesStayLegal

@@ -1,13 +1,13 @@
 -- Changes of a world that are quiet: no core of a file that has not ended changes.
-use Rattle.std.proofs.Common.{◌≡◌, ℕ, Bool, true, false, not, List, [], ◌∷◌, ◌++◌, length, map, filter, Option, Some, None, refl, sym, ◌∙◌, cond, if◌then◌else◌}
-use Rattle.std.specs.Prelude.{find, unwrap_or, ◌==◌, ◌&&◌, is_none, set}
+use Rattle.std.proofs.Common.{◌≡◌, ℕ, Bool, true, false, List, [], ◌∷◌, ◌++◌, map, filter, Option, Some, None, refl, sym, ◌∙◌, cond, if◌then◌else◌}
+use Rattle.std.specs.Prelude.{find, unwrap_or, ◌==◌, ◌&&◌, is_none}
 use Rattle.std.proofs.lemmas.List.{length-set}
 use Rattle.cfs_core.specs.declared.inode_core.Core.{Core}
 use Rattle.cfs_dir.specs.declared.change.Change.{Change}
-use Rattle.cfs_meaning.specs.World.{Caller, Descriptor, File, Held, Names, Queue, World, block_of, file_in, held_at, new_file, placed, queue_in, replaces, with_file, with_names, with_queue, with_descriptor, with_descriptors, without, empty_core}
+use Rattle.cfs_meaning.specs.World.{Descriptor, File, Held, Names, Queue, World, block_of, file_in, held_at, new_file, replaces, with_file, with_names, with_queue, with_descriptor, with_descriptors, empty_core}
 use Rattle.cfs_meaning.specs.Laws.{OfEachCore}
 use Rattle.cfs_meaning.specs.Inode.{come_back, end_core, give_block, hold, map_block, take_block, with_passed, with_size_unsure}
-use Rattle.cfs_meaning.specs.Files.{at_position, close_in, collected, has_no_power, move_by, move_to, moved_by}
+use Rattle.cfs_meaning.specs.Files.{at_position, has_no_power, move_by, move_to, moved_by}
 use Rattle.cfs_meaning.specs.Names.{doubt_settled, recorded, selected, selector_settled}
 use Rattle.cfs_meaning.specs.Workers.{Item, once_more, pass_over, pass_over_all}
 use Rattle.cfs_meaning.proofs.Keeping.{IsQuiet}

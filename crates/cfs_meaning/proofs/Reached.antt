@@ -1,6 +1,5 @@
 -- Cores stay reached.
-use Rattle.std.proofs.Common.{◌≡◌, ℕ, Bool, true, false, Option, Some, None, List, [], ◌∷◌, ◌++◌, length, refl, subst, sym, cond, if◌then◌else◌}
-use Rattle.std.specs.Prelude.{Result, Ok, Err}
+use Rattle.std.proofs.Common.{ℕ, Bool, true, false, List, [], ◌∷◌, refl, if◌then◌else◌}
 use Rattle.std.specs.List.{flat_map}
 use Rattle.cfs_core.specs.declared.inode_core.Core.{Core}
 use Rattle.cfs_core.specs.Fresh.{IsEmpty}
@@ -12,19 +11,12 @@ use Rattle.cfs_core_laws.specs.Reached.{IsReached, begins, comes}
 use Rattle.cfs_dir.specs.declared.change.Change.{Change}
 use Rattle.cfs_dir.specs.declared.change.Change.TheVariants as changes
 use Rattle.cfs_dir.specs.Namespace.{is_directory}
-use Rattle.cfs_script.specs.declared.form.Form.{Form}
-use Rattle.cfs_script.specs.declared.form.Form.TheVariants as forms
-use Rattle.cfs_script.specs.declared.line.Line.{Line}
-use Rattle.cfs_print.specs.declared.out_line.OutLine.{OutLine}
-use Rattle.cfs_meaning.specs.Drive.{Drive}
 use Rattle.cfs_meaning.specs.NameSteps.{changes_of}
-use Rattle.cfs_meaning.specs.World.{File, Phase, Up, World, core_in, empty_core, file_in, new_file, with_drive}
+use Rattle.cfs_meaning.specs.World.{File, core_in, empty_core, new_file}
 use Rattle.cfs_meaning.specs.Names.{files_made}
-use Rattle.cfs_meaning.specs.Laws.{AreReached, CoresStayReached, FilesAreGood, IsGiven, OfEachCore}
-use Rattle.cfs_meaning.specs.Play.{Step, crash_in, does, joined, mount_line, number_of, steps_so}
-use Rattle.cfs_meaning.specs.Ways.{Changes, Ends, Halt, Then, ends, follows, gives, halts, now}
-use Rattle.cfs_meaning.proofs.Keeping.{Any, Base, Keeps}
-use Rattle.cfs_meaning.proofs.KeptLines.{IsGivenIfAny, is_plain, kept-plain}
+use Rattle.cfs_meaning.specs.Laws.{AreReached, CoresStayReached, FilesAreGood, OfEachCore}
+use Rattle.cfs_meaning.specs.Play.{steps_so}
+use Rattle.cfs_meaning.proofs.Keeping.{Any}
 use Rattle.cfs_meaning.proofs.Kept.{Law}
 use Rattle.cfs_meaning.proofs.Lines.{Powers, line-kept}
 use Rattle.cfs_meaning.proofs.Quiet as quiet

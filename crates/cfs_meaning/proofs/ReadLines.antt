@@ -1,7 +1,6 @@
 -- Reads are right.
-use Rattle.std.proofs.Common.{◌≡◌, ◌⊎◌, inl, inr, ℕ, ◌+◌, ◌-◌, ◌<◌, ◌≤◌, Bool, true, false, Option, Some, None, List, [], ◌∷◌, length, map, refl, sym, ap, ◌∙◌, subst, cond, arith, if◌then◌else◌}
+use Rattle.std.proofs.Common.{◌≡◌, ◌⊎◌, inl, inr, ℕ, ◌+◌, ◌-◌, ◌<◌, Bool, true, false, Option, Some, None, List, [], ◌∷◌, length, map, refl, sym, ap, ◌∙◌, subst, cond, arith, if◌then◌else◌}
 use Rattle.std.specs.Prelude.{Result, Ok, Err, ◌==◌, ◌&&◌, find, unwrap_or, get_or}
-use Rattle.std.specs.List.{slice_get}
 use Rattle.std.proofs.lemmas.Bool.{cases_lt, eq-eqb, eqb-true}
 use Rattle.std.proofs.lemmas.List.{get_or_past}
 use Rattle.std.proofs.lemmas.Option.{slice_get-get_or}
@@ -22,14 +21,13 @@ use Rattle.cfs_file.specs.declared.request.Request.{Request}
 use Rattle.cfs_core.specs.May.{is_sync_at}
 use Rattle.cfs_print.specs.declared.printed.Printed.{Printed}
 use Rattle.cfs_print.specs.declared.printed.Printed.TheVariants as answers
-use Rattle.cfs_meaning.specs.World.{Descriptor, Down, Failed, File, Phase, Up, World, core_in, descriptor_in, empty_core, file_in, new_file, replaces, with_core, with_descriptor}
-use Rattle.cfs_meaning.specs.Inode.{Comes, comes, serve}
+use Rattle.cfs_meaning.specs.World.{Descriptor, Down, Failed, File, Phase, Up, World, core_in, descriptor_in, file_in, new_file, replaces, with_core, with_descriptor}
+use Rattle.cfs_meaning.specs.Inode.{comes, serve}
 use Rattle.cfs_meaning.specs.Files.{Defers, at_position, defers, faults, has_no_power, length_at, move_by, moved_by, read_or_sync, say_served, serve_helped, serve_posted, serves}
 use Rattle.cfs_script.specs.declared.form.Form.{Form}
 use Rattle.cfs_script.specs.declared.form.Form.TheVariants as forms
-use Rattle.cfs_script.specs.declared.line.Line.{Line}
 use Rattle.cfs_print.specs.declared.out_line.OutLine.{OutLine}
-use Rattle.cfs_meaning.specs.Play.{Step, answer_of, does, printed, steps_so, up, while_up}
+use Rattle.cfs_meaning.specs.Play.{answer_of, does, printed, steps_so, up, while_up}
 use Rattle.cfs_meaning.specs.Laws.{AreReached, IsReadAt, OfEachCore, ReadsAreRight, is_reading}
 use Rattle.cfs_meaning.specs.Ways.{Fault, Halt, Says, Waits, Way, ends, follows, gives, mends, now, says, waits, well, ◌>>=◌}
 use Rattle.cfs_meaning.proofs.Keeping.{Any, EndsAs, IsSaid, Keeps, keep-refuse, keep-repeats, keep-steps}
@@ -57,7 +55,7 @@ within : (tracks : List Track) (place : ℕ) → is_unserved (track tracks place
 within tracks place is = elim (cases_lt (place - 1) (length tracks)) [
   | inl low ↦ low
   | inr past ↦ absurd (not-blank (track tracks place) is
-    (either-blank (place == 0) _ (get_or_past tracks (place - 1) blank past)))
+      (either-blank (place == 0) _ (get_or_past tracks (place - 1) blank past)))
 ]
 
 no_entry : Entry
@@ -84,9 +82,9 @@ served-right core place bytes reached may_be =
     let good = good-kept core known.kept in
     let same = (in-step core known.kept known.doubted).tracks in
     let open_now : is_unserved (track core.tracks place).state ≡ true =
-        may-be-unserved core place bytes may_be in
+    may-be-unserved core place bytes may_be in
     let low : place - 1 < length core.log =
-        omega (arith, within core.tracks place open_now, same) in
+    omega (arith, within core.tracks place open_now, same) in
     let here = slice_get-get_or core.log (place - 1) no_entry low in
     record {
       entry = get_or core.log (place - 1) no_entry;
@@ -139,8 +137,8 @@ unfolding IsFound
 found-own world ino place bytes may_be = elim (looked-up ino world.files (new_file 0 0)) [
   | inl own ↦ own
   | inr none ↦ absurd (no-place (file_in world ino) none
-    (within (core_in world ino).tracks place
-    (may-be-unserved (core_in world ino) place bytes may_be)))
+      (within (core_in world ino).tracks place
+      (may-be-unserved (core_in world ino) place bytes may_be)))
 ]
   where
     no-place : (f : File) → f ≡ new_file 0 0 → place - 1 < length f.core.tracks → ⊥
@@ -180,7 +178,8 @@ serve-right line ino place old end new reached
 
 helped-right : (line ino place : ℕ) (old : World) (end : Result (List ℕ) Halt) (new : World) →
     AreReached old → serve_helped ino place old end new → IfRead ino place end new
-helped-right line ino place old end new reached (well (follows {mid = mid} {end = done} cleared way)) =
+helped-right line ino place old end new reached
+    (well (follows {mid = mid} {end = done} cleared way)) =
     serve-right line ino place mid done new
     ((keep-repeats (kept-clear (reached_law line) ino place)).by old _ mid reached cleared).1 way
 helped-right line ino place old end new reached (waits way) = tt
@@ -198,6 +197,7 @@ move-files c d true place world = moved-files (descriptor_in world c d.fd)
         world).files ≡ world.files
     unless-off true o = refl
     unless-off false o = refl
+
     moved-files : (option : Option Descriptor) →
         (moved_by option c (d.position + length_at world d.grant.ino place) world).files
         ≡ world.files

@@ -1,6 +1,6 @@
 -- The devices of a store under one power: what is asked of them, one operation after another, until
 -- one is refused.
-use Rattle.std.specs.Prelude.{ℕ, ◌+◌, Bool, true, false, List, [], ◌∷◌, ◌++◌, length, map, reverse, set, if◌then◌else◌}
+use Rattle.std.specs.Prelude.{ℕ, ◌+◌, Bool, true, false, List, [], ◌∷◌, length, map, reverse, set, if◌then◌else◌}
 use Rattle.cfs_pmem.specs.declared.trace.Asked.{Asked}
 use Rattle.cfs_pmem.specs.Images.{Seen, WordStep, failed, words_of}
 use Rattle.cfs_pmem.specs.Meter.{answer}
@@ -50,10 +50,12 @@ abbrev pub noted : Op → Bool → Drive → Drive
 noted op allowed drive = record drive { asked = answered (asks op drive) allowed ∷ drive.asked }
 
 abbrev pub with_region : ℕ → (Seen WordStep → Seen WordStep) → Drive → Drive
-with_region r change drive = record drive { regions = set drive.regions r (change (region_at drive r)) }
+with_region r change drive =
+    record drive { regions = set drive.regions r (change (region_at drive r)) }
 
 abbrev pub with_block : ℕ → (Seen BlockStep → Seen BlockStep) → Drive → Drive
-with_block b change drive = record drive { blocks = set drive.blocks b (change (block_at drive b)) }
+with_block b change drive =
+    record drive { blocks = set drive.blocks b (change (block_at drive b)) }
 
 -- what an operation does
 abbrev pub made : Op → Drive → Drive

@@ -1,8 +1,9 @@
 -- A short script, and what it answers: a caller makes a file, writes two bytes and reads them back.
-use Rattle.std.specs.Prelude.{◌≡◌, ℕ, true, false, None, List, [], ◌∷◌}
+use Rattle.std.specs.Prelude.{true, false, None, List, [], ◌∷◌}
 use Rattle.std.specs.List.{range_with_len}
 use Rattle.cfs_dir.specs.declared.kind.Kind.TheVariants.{Directory}
 use Rattle.cfs_dir.specs.Namespace.{Namespace}
+use Rattle.cfs_words.specs.declared.flags.Flags.{Flags}
 use Rattle.cfs_script.specs.declared.form.Form.TheVariants as forms
 use Rattle.cfs_script.specs.declared.line.Line.{Line}
 use Rattle.cfs_print.specs.declared.out_line.OutLine.{OutLine}
@@ -49,6 +50,10 @@ new_world drive = record {
   callers = [];
 }
 
+-- rwc
+abbrev pub its_flags : Flags
+its_flags = record { read = true; write = true; create = true; exclusive = false; append = false }
+
 -- caller 1 10 10
 -- 1 open /a rwc 0644
 -- 1 pwrite 0 0 t:hi
@@ -58,8 +63,7 @@ the_lines =
     record { number = 1; form = forms.Caller 1 10 10 }
     ∷ record {
       number = 2;
-      form = forms.Open 1 ((97 ∷ []) ∷ [])
-          (record { read = true; write = true; create = true; exclusive = false; append = false }) 420;
+      form = forms.Open 1 ((97 ∷ []) ∷ []) its_flags 420;
     }
     ∷ record { number = 3; form = forms.Pwrite 1 0 0 (104 ∷ 105 ∷ []) }
     ∷ record { number = 4; form = forms.Pread 1 0 0 4 }

@@ -1,5 +1,5 @@
 -- The lines of callers on files.
-use Rattle.std.specs.Prelude.{◌≡◌, ℕ, suc, ◌+◌, ◌-◌, ◌==◌, Bool, true, false, not, ◌&&◌, ◌||◌, if◌then◌else◌, min, Option, Some, None, Result, Ok, Err, List, [], ◌∷◌, ◌++◌, length, map, filter, take, get_or, replicate, nat_lt, nat_le}
+use Rattle.std.specs.Prelude.{◌≡◌, ℕ, ◌+◌, ◌-◌, ◌==◌, Bool, true, false, not, ◌&&◌, ◌||◌, if◌then◌else◌, min, Option, Some, None, Result, Ok, Err, List, [], ◌∷◌, length, map, filter, take, replicate, nat_lt, nat_le}
 use Rattle.std.specs.List.{flat_map, list_any}
 use Rattle.cfs_file.specs.declared.request.Request.{Request}
 use Rattle.cfs_file.specs.declared.request.Request.TheVariants as requests
@@ -24,7 +24,7 @@ use Rattle.cfs_print.specs.declared.printed.Printed.TheVariants.{Full, Got, Pend
 use Rattle.cfs_meaning.specs.Drive.{Drive}
 use Rattle.cfs_meaning.specs.NameSteps.{closing}
 use Rattle.cfs_meaning.specs.Steps.{staged, zeroed}
-use Rattle.cfs_meaning.specs.World.{Descriptor, Held, Queue, World, all_placed, core_in, descriptor_in, file_in, queue_in, with_descriptor, with_descriptors, with_queue}
+use Rattle.cfs_meaning.specs.World.{Descriptor, File, Held, Queue, World, all_placed, core_in, descriptor_in, file_in, queue_in, with_descriptor, with_descriptors, with_queue}
 use Rattle.cfs_meaning.specs.Ways.{Changes, Fault, Halt, Mends, Now, Repeats, Says, Waits, Way, choose, done, each, end_with, give, known, refuse_if, steps, when, ◌>>=◌, ◌>>◌}
 use Rattle.cfs_meaning.specs.Inode.{Absent, Behind, Ready, Verdict, admit, admit_read, drop_read, is_append, run_job, serve, serve_verdict, settle, skip, unmapped, verdict}
 use Rattle.cfs_meaning.specs.Names.{ask_and_purge}
@@ -103,8 +103,8 @@ make_room d count = do
   collect d.grant.queue
   world ← Now
   choose (nat_le count (free_count world d)) (give false)
-    (choose (own_doubt (core_in world d.grant.ino).doubt d.grant.number)
-    (settle d.grant.ino >> give true) (help_lowest d))
+      (choose (own_doubt (core_in world d.grant.ino).doubt d.grant.number)
+      (settle d.grant.ino >> give true) (help_lowest d))
 
 abbrev pub find_room : Descriptor → ℕ → Way (Unit {0})
 find_room d count = Repeats (make_room d count) >> done
@@ -121,9 +121,8 @@ held_places core queue h =
 
 abbrev pub busy : World → Descriptor → List ℕ
 busy world d =
-    all_placed
-    (flat_map (held_places (core_in world d.grant.ino) d.grant.queue) (file_in world d.grant.ino).held)
-    []
+    let f : File = file_in world d.grant.ino in
+    all_placed (flat_map (held_places f.core d.grant.queue) f.held) []
 
 abbrev pub room_or_full : Descriptor → ℕ → Way (Unit {0})
 room_or_full d count = do
@@ -172,7 +171,7 @@ stage_and_admit d c line request = do
   here ← Now
   let core = core_in here ino
   refuse_if (is_append request && nat_lt LONGEST_FILE (length (file core) + count))
-    (Refused posix.FileTooLarge)
+      (Refused posix.FileTooLarge)
   let need = length (unmapped (file_in here ino) (span_now core request))
   refuse_if (nat_lt (length here.free) need) (Short need (length here.free))
   each (take need here.free) (λ b. steps (zeroed b))

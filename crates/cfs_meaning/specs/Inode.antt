@@ -1,6 +1,6 @@
 -- What is done to one file: each part makes its operations of devices, and its events of the file's
 -- core.
-use Rattle.std.specs.Prelude.{◌≡◌, Result, Ok, Err, ℕ, ◌+◌, ◌-◌, ◌*◌, ◌==◌, Bool, true, false, not, ◌&&◌, ◌||◌, if◌then◌else◌, Option, Some, None, List, [], ◌∷◌, ◌++◌, length, map, filter, find, take, drop, get_or, replicate, count_by, is_none, is_some, unwrap_or}
+use Rattle.std.specs.Prelude.{◌≡◌, Result, Ok, ℕ, ◌+◌, ◌-◌, ◌*◌, ◌==◌, Bool, true, false, not, ◌&&◌, ◌||◌, if◌then◌else◌, Option, Some, None, List, [], ◌∷◌, ◌++◌, length, map, filter, find, take, drop, get_or, replicate, count_by, is_none, is_some, unwrap_or}
 use Rattle.std.specs.Option.{option_to_list}
 use Rattle.std.specs.List.{flat_map, list_any, range_with_len}
 use Rattle.cfs_file.specs.declared.entry.Entry.{Entry}
@@ -155,11 +155,11 @@ admit d c line request slots = do
   let core = core_in world ino
   let place = length core.log + 1
   when (is_append request)
-    (steps (offset_set (slot d.grant.queue (get_or slots 0 0)) (length (file core))))
+      (steps (offset_set (slot d.grant.queue (get_or slots 0 0)) (length (file core))))
   each (untagged core (span_now core request)) (tag ino)
-  open_gate ino
-    (record { ino = ino; place = place; caller = c; line = line; request = request }) d.grant.number
-    (record { gate = place; queue = d.grant.queue; slots = slots })
+  open_gate ino (record { ino = ino; place = place; caller = c; line = line; request = request })
+      d.grant.number
+      (record { gate = place; queue = d.grant.queue; slots = slots })
   behind ← Now
   each (marks_to_try (core_in behind ino) place) (mark ino place)
   give place
@@ -197,9 +197,9 @@ abbrev pub verdict : Core → ℕ → Verdict
 verdict core place =
     let t : Track = track core.tracks place in
     if is_waiting t.state then
-      first_of
-      (first_before core place (λ o. (is_live o.state || is_unserved o.state) && meets o.span t.span))
-      (holder core (map (λ l. l.block) (leases (next_job core.tags t))))
+    first_of
+    (first_before core place (λ o. (is_live o.state || is_unserved o.state) && meets o.span t.span))
+    (holder core (map (λ l. l.block) (leases (next_job core.tags t))))
     else Absent
 
 -- of a serve: an earlier live entry that overlaps, for a sync any, or else a job with a block that
@@ -267,7 +267,7 @@ write_block ino place k = do
   whole ← Tries (Block b (put_bytes from piece) ∷ [])
   behind ← Now
   event ino (events.BlockWrite place k
-    (what_is_left whole (take (length piece) (drop from (content_at behind.drive b).bytes))))
+      (what_is_left whole (take (length piece) (drop from (content_at behind.drive b).bytes))))
   unless_fault whole
 
 abbrev pub flush_block : ℕ → ℕ → ℕ → Way (Unit {0})
@@ -287,7 +287,7 @@ abbrev pub apply : ℕ → ℕ → Way (Unit {0})
 apply ino place = do
   world ← Now
   next_step ino place (find (λ l. not l.written) (leases_at world ino place))
-    (find (λ l. not l.flushed) (leases_at world ino place))
+      (find (λ l. not l.flushed) (leases_at world ino place))
 
 -- the job is given up; its entry waits again
 abbrev pub back : ℕ → ℕ → SizeEnd → Way (Unit {0})
@@ -348,7 +348,7 @@ run_job ino place = do
   dispatch ino place
   world ← Now
   Mends (each (replicate (left_at world ino place) place) (apply ino))
-    (back ino place sizes.AsBefore)
+      (back ino place sizes.AsBefore)
   finish ino place
 
 -- the gate of a no-op is closed
@@ -429,7 +429,7 @@ admit_read d c line request = do
   let ino = d.grant.ino
   let place = length (core_in world ino).log + 1
   event ino (events.AdmitRead
-    (record { ino = ino; place = place; caller = c; line = line; request = request }))
+      (record { ino = ino; place = place; caller = c; line = line; request = request }))
   Changes (with_descriptor c (with_posted place d))
   give place
 
@@ -441,7 +441,7 @@ serve ino place = do
   let s = (track f.core.tracks place).span
   let bytes = map (reads f.core) (positions s)
   steps (flat_map (λ k. map (λ b. Block b get_bytes) (option_to_list (block_of f k)))
-    (blocks_needed s))
+      (blocks_needed s))
   event ino (events.Serve place (Some bytes))
   give bytes
 

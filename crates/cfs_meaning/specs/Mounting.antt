@@ -1,5 +1,5 @@
 -- What a store says when it is mounted, the steps of a mount, and the world that stands behind it.
-use Rattle.std.specs.Prelude.{ℕ, ◌+◌, ◌-◌, ◌*◌, ◌/◌, ◌%◌, ◌==◌, Bool, true, false, not, ◌&&◌, ◌||◌, if◌then◌else◌, Option, Some, None, List, [], ◌∷◌, ◌++◌, length, map, filter, take, drop, get_or, replicate, nat_le}
+use Rattle.std.specs.Prelude.{ℕ, ◌+◌, ◌-◌, ◌*◌, ◌/◌, ◌%◌, ◌==◌, Bool, false, not, ◌&&◌, ◌||◌, if◌then◌else◌, None, List, [], ◌∷◌, ◌++◌, length, map, filter, take, drop, get_or, replicate, nat_le}
 use Rattle.std.specs.List.{flat_map, list_any, range_with_len}
 use Rattle.cfs_file.specs.declared.request.Request.{Request}
 use Rattle.cfs_file.specs.declared.request.Request.TheVariants as requests
@@ -7,8 +7,8 @@ use Rattle.cfs_file.specs.declared.span.Span.{Span}
 use Rattle.cfs_file.specs.declared.sizes.TheConstants.{BLOCK_LEN, FILE_BLOCKS}
 use Rattle.cfs_file.specs.Span.{meets, span}
 use Rattle.cfs_core.specs.declared.inode_core.Core.{Core}
-use Rattle.cfs_core.specs.Words.{block_span, end_in, flag_of, payload_of, piece_in, sized, start_in, start_of}
-use Rattle.cfs_block.specs.BlockOps.{flush, get_bytes, get_tag, put_bytes}
+use Rattle.cfs_core.specs.Words.{block_span, flag_of, payload_of, piece_in, sized, start_in}
+use Rattle.cfs_block.specs.BlockOps.{flush, get_tag, put_bytes}
 use Rattle.cfs_pmem.specs.Images.{words_of}
 use Rattle.cfs_dir.specs.declared.change.Change.{Change}
 use Rattle.cfs_dir.specs.declared.node.Node.{Node}
@@ -21,10 +21,10 @@ use Rattle.cfs_names.specs.Recovered.{recovered}
 use Rattle.cfs_medium.specs.Store.{Store, stored_file, tag_of}
 use Rattle.cfs_meaning.specs.Drive.{Block, Drive, Op, content_at, words_at}
 use Rattle.cfs_meaning.specs.NameSteps.{new_order}
-use Rattle.cfs_meaning.specs.Steps.{gate_closed, journal_record, payload_read, selector, size_word, slot, table_copy, tag_kept, word_kept, words_read}
-use Rattle.cfs_meaning.specs.World.{Caller, File, Names, Queue, Up, World, all_placed, empty_core, new_file, without_descriptors}
+use Rattle.cfs_meaning.specs.Steps.{gate_closed, journal_record, selector, size_word, slot, table_copy, tag_kept, word_kept, words_read}
+use Rattle.cfs_meaning.specs.World.{Caller, File, Names, Up, World, all_placed, empty_core, new_file, without_descriptors}
 use Rattle.cfs_meaning.specs.Inode.{part_read}
-use Rattle.cfs_meaning.specs.Ways.{Changes, Now, Way, done, each, steps, when, ◌>>=◌, ◌>>◌}
+use Rattle.cfs_meaning.specs.Ways.{Now, Way, each, steps, when, ◌>>=◌, ◌>>◌}
 
 -- ---- the recovered tree
 
@@ -139,8 +139,8 @@ part_written drive at x =
     let request : Request = request_at drive at in
     let s : Span = positions_of request in
     part_read (devices_at drive at) (payload_of request) s x.0
-    ++ Block x.1 (put_bytes (start_in s x.0 - BLOCK_LEN * x.0) (piece_in (payload_of request) s x.0))
-    ∷ []
+    ++ Block x.1
+    (put_bytes (start_in s x.0 - BLOCK_LEN * x.0) (piece_in (payload_of request) s x.0)) ∷ []
 
 abbrev pub flushed : ℕ × ℕ → List Op
 flushed x = Block x.1 flush ∷ []
@@ -182,10 +182,13 @@ lost_untagged drive tree =
     flat_map (λ b. tag_kept b 0)
     (filter (λ b. is_lost_tag tree (content_at drive b).tag) (block_numbers drive))
 
+abbrev pub is_lost_size : Drive → Namespace → ℕ → Bool
+is_lost_size drive tree rec = not (size_in drive rec == 0) && not (has_record tree rec)
+
 abbrev pub lost_cleared : Drive → Namespace → List Op
 lost_cleared drive tree =
     flat_map (λ rec. word_kept (size_word rec) 0 0)
-    (filter (λ rec. not (size_in drive rec == 0) && not (has_record tree rec)) (range_with_len 0 256))
+    (filter (is_lost_size drive tree) (range_with_len 0 256))
 
 abbrev pub mount_steps : Way (Unit {0})
 mount_steps = do
@@ -205,6 +208,9 @@ live_count drive =
 
 -- ---- the mounted world
 
+abbrev pub is_mapped : Drive → ℕ → ℕ → Bool
+is_mapped drive ino k = list_any (λ x. x.0 == k) (mapped drive ino)
+
 -- nothing is logged; the base is what is stored
 abbrev pub mounted_core : Drive → Node → Core
 mounted_core drive node =
@@ -212,7 +218,7 @@ mounted_core drive node =
     record empty_core {
       base = base;
       size = length base;
-      tags = map (λ k. flag_of (list_any (λ x. x.0 == k) (mapped drive node.ino))) (range_with_len 0 FILE_BLOCKS);
+      tags = map (λ k. flag_of (is_mapped drive node.ino k)) (range_with_len 0 FILE_BLOCKS);
       bytes = base;
     }
 

@@ -1,6 +1,5 @@
--- Requests on names as steps of a tree and the grants that stand. This file alone cites the crate of
--- those requests.
-use Rattle.std.specs.Prelude.{ℕ, ◌==◌, Bool, not, ◌&&◌, List, [], ◌∷◌, Option, Some, None, Result, Ok, Err, if◌then◌else◌}
+-- Requests on names as steps of a tree and the grants that stand.
+use Rattle.std.specs.Prelude.{ℕ, ◌==◌, Bool, ◌&&◌, List, [], ◌∷◌, Option, Some, None, Result, Ok, Err, if◌then◌else◌}
 use Rattle.std.specs.List.{list_any}
 use Rattle.cfs_dir.specs.declared.change.Change.{Change}
 use Rattle.cfs_dir.specs.declared.change.Change.TheVariants.{Create, Remove}
@@ -13,7 +12,7 @@ use Rattle.cfs_requests.specs.declared.name_refusal.NameRefusal.{NameRefusal}
 use Rattle.cfs_requests.specs.declared.opening.Opening.{Opening}
 use Rattle.cfs_requests.specs.declared.opening.Opening.TheVariants.{Found, Made}
 use Rattle.cfs_requests.specs.Looks.{makes, moves, opens, removes, unlinks}
-use Rattle.cfs_requests.specs.Steps.{IsLegalOrder, NameAnswer, NameEntry, NameRequest, Names, Step, closes_grant, makes_directory, moves_node, opens_file, removes_directory, stepped, unlinks_file}
+use Rattle.cfs_requests.specs.Steps.{IsLegalOrder, NameEntry, NameRequest, Names, Step, closes_grant, makes_directory, moves_node, opens_file, removes_directory, stepped, unlinks_file}
 
 -- a tree, the grants that stand, and the number of the next grant
 abbrev pub Order : Type 0
@@ -49,7 +48,8 @@ refusal_of order (opens_file credential path flags mode) rec =
     refusal_in (opens order.tree credential path flags mode rec)
 refusal_of order (makes_directory credential path mode) rec =
     refusal_in (makes order.tree credential path mode rec)
-refusal_of order (unlinks_file credential path) rec = refusal_in (unlinks order.tree credential path)
+refusal_of order (unlinks_file credential path) rec =
+    refusal_in (unlinks order.tree credential path)
 refusal_of order (removes_directory credential path) rec =
     refusal_in (removes order.tree credential path)
 refusal_of order (moves_node credential from to) rec =

@@ -7,7 +7,6 @@ use Rattle.cfs_dir.specs.declared.change.Change.TheVariants as changes
 use Rattle.cfs_dir.specs.declared.posix.Posix.TheVariants as posix
 use Rattle.cfs_dir.specs.Namespace.{is_directory}
 use Rattle.cfs_ckpt.specs.Stores.{free_copy, put_ops, select_ops, settle_ops, word_for}
-use Rattle.cfs_grants.specs.declared.grant.Grant.{Grant}
 use Rattle.cfs_requests.specs.declared.name_refusal.NameRefusal.{NameRefusal}
 use Rattle.cfs_requests.specs.declared.name_refusal.NameRefusal.TheVariants as refusals
 use Rattle.cfs_requests.specs.Steps.{NameAnswer, NameEntry, NameRequest, Step}
@@ -17,9 +16,9 @@ use Rattle.cfs_print.specs.declared.printed.Printed.TheVariants.{Made, Named, No
 use Rattle.cfs_meaning.specs.Drive.{words_at}
 use Rattle.cfs_meaning.specs.Steps.{appended, on_tables, record_closed, selector}
 use Rattle.cfs_meaning.specs.NameSteps.{Order, changes_of, refusal_of, step_of, tree_of}
-use Rattle.cfs_meaning.specs.World.{Caller, Descriptor, File, Names, World, caller_in, credential_in, is_in_tree, is_open, is_used, new_file, open_of, with_descriptors, with_names}
+use Rattle.cfs_meaning.specs.World.{Descriptor, File, Names, World, caller_in, is_in_tree, is_open, is_used, new_file, open_of, with_descriptors, with_names}
 use Rattle.cfs_meaning.specs.Inode.{purge}
-use Rattle.cfs_meaning.specs.Ways.{Changes, Now, Shrugs, Tries, Way, done, each, give, known, never, only_if, steps, unless_fault, when, ◌>>=◌, ◌>>◌}
+use Rattle.cfs_meaning.specs.Ways.{Changes, Now, Shrugs, Tries, Way, each, give, known, never, only_if, steps, unless_fault, when, ◌>>=◌, ◌>>◌}
 
 -- ---- journal and checkpoint
 
@@ -64,7 +63,7 @@ store_change change = do
   let through = ready.names.through
   let records = ready.names.records
   when (is_some ready.names.doubt)
-    (steps (record_closed through records) >> Changes (with_names doubt_settled))
+      (steps (record_closed through records) >> Changes (with_names doubt_settled))
   kept ← Tries (appended through records change)
   Changes (with_names (recorded change kept))
   unless_fault kept
@@ -114,16 +113,19 @@ ask c line request = do
   world ← Now
   let rec = free_record world
   step ← known (step_in world c request rec)
-    (refusal_answer world (refusal_of world.names.now request rec))
+      (refusal_answer world (refusal_of world.names.now request rec))
   each (changes_of world.names.now request rec) store_change
   Changes (log_step c line request rec step)
   give step.0
 
 -- ---- open
 
+abbrev pub has_fd : List Descriptor → ℕ → Bool
+has_fd opened n = list_any (λ d. d.fd == n) opened
+
 abbrev pub lowest_fd : List Descriptor → ℕ
 lowest_fd opened =
-    unwrap_or (find (λ n. not (list_any (λ d. d.fd == n) opened)) (range_with_len 0 (length opened + 1))) 0
+    unwrap_or (find (λ n. not (has_fd opened n)) (range_with_len 0 (length opened + 1))) 0
 
 -- a descriptor with the lowest free number has the grant
 abbrev pub open_with : ℕ → Bool → NameAnswer → Way Printed
@@ -131,7 +133,7 @@ open_with c appends (names.granted grant) = do
   world ← Now
   let fd = lowest_fd (open_of (caller_in world c))
   Changes (with_descriptors c (λ opened. opened
-    ++ record { fd = fd; grant = grant; appends = appends; position = 0; posted = [] } ∷ []))
+      ++ record { fd = fd; grant = grant; appends = appends; position = 0; posted = [] } ∷ []))
   give (Opened (name_count world) fd grant.ino)
 open_with c appends other = never
 
@@ -148,9 +150,12 @@ say_named = Now >>= (λ w. give (Named (name_count w)))
 abbrev pub is_dying : World → File → Bool
 is_dying world f = not (is_in_tree world f.ino) && not (is_open world f.ino)
 
+abbrev pub is_dying_at : World → ℕ → File → Bool
+is_dying_at world rec f = (f.rec == rec) && is_dying world f
+
 abbrev pub dying : World → List ℕ
 dying world =
-    flat_map (λ rec. map (λ f. f.ino) (filter (λ f. (f.rec == rec) && is_dying world f) world.files))
+    flat_map (λ rec. map (λ f. f.ino) (filter (is_dying_at world rec) world.files))
     (range_with_len 0 256)
 
 -- each of them is purged; a fault leaves it for the next time, and is not answered

@@ -1,5 +1,6 @@
 -- What each line of a script does, what it answers, and what a whole script does.
-use Rattle.std.specs.Prelude.{◌≡◌, ℕ, ◌+◌, Bool, true, false, not, ◌&&◌, if◌then◌else◌, Option, Some, None, Result, Ok, Err, List, [], ◌∷◌, ◌++◌, length, map, take, nat_lt}
+use Rattle.std.specs.Prelude.{ℕ, ◌+◌, Bool, true, false, ◌&&◌, if◌then◌else◌, Option, Some, None, Result, Ok, Err, List, [], ◌∷◌, ◌++◌, length, map, take, nat_lt}
+use Rattle.cfs_cred.specs.declared.credential.Credential.{Credential}
 use Rattle.cfs_file.specs.declared.request.Request.TheVariants as requests
 use Rattle.cfs_file.specs.declared.sizes.TheConstants.{LONGEST_WRITE}
 use Rattle.cfs_pmem.specs.declared.trace.Asked.TheVariants.{Planned, Revived, Stopped}
@@ -17,8 +18,8 @@ use Rattle.cfs_print.specs.declared.printed.Printed.TheVariants as answers
 use Rattle.cfs_requests.specs.Steps.{makes_directory, moves_node, opens_file, removes_directory, unlinks_file}
 use Rattle.cfs_meaning.specs.Drive.{Drive}
 use Rattle.cfs_meaning.specs.Steps.{journal_record, selector, size_word, slot, table_copy}
-use Rattle.cfs_meaning.specs.World.{Caller, Down, Failed, Phase, Up, World, credential_in, with_drive, without_descriptors}
-use Rattle.cfs_meaning.specs.Ways.{Changes, Fault, Halt, Now, Says, Waits, Way, done, give, known, never, say, ◌>>=◌, ◌>>◌}
+use Rattle.cfs_meaning.specs.World.{Down, Failed, Phase, Up, World, credential_in, with_drive, without_descriptors}
+use Rattle.cfs_meaning.specs.Ways.{Changes, Fault, Halt, Now, Says, Waits, Way, give, known, never, say, ◌>>=◌, ◌>>◌}
 use Rattle.cfs_meaning.specs.Names.{ask, ask_and_purge, open_with, say_made, say_named}
 use Rattle.cfs_meaning.specs.Files.{close, find_room, ftruncate, has_no_power, list_queue, lseek, most_read, opened, opened_to_read, opened_to_write, post, pwrite, read_or_sync, room_or_full, serve_posted, write}
 use Rattle.cfs_meaning.specs.Workers.{apply_line, dispatch_line, drain, finish_line, settle_line, skip_line, trim_line, turn_line}
@@ -117,7 +118,7 @@ joined c uid gid world = record world {
 }
 
 -- by a caller's credential
-abbrev pub by : {A : Type 0} → ℕ → (Rattle.cfs_cred.specs.declared.credential.Credential.Credential → Way A) → Way A
+abbrev pub by : {A : Type 0} → ℕ → (Credential → Way A) → Way A
 by c way = Now >>= (λ w. way (credential_in w c))
 
 -- what a line does, and its answer if it has one; `cut` is no line of `play`

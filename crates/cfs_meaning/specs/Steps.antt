@@ -1,5 +1,5 @@
 -- Where the devices stand, and the operations of each call on them in order.
-use Rattle.std.specs.Prelude.{ℕ, ◌+◌, ◌-◌, ◌*◌, Bool, true, false, List, [], ◌∷◌, ◌++◌, length, map, reverse, take, drop, nat_lt, if◌then◌else◌}
+use Rattle.std.specs.Prelude.{ℕ, ◌+◌, ◌*◌, Bool, true, false, List, [], ◌∷◌, ◌++◌, length, map, reverse, take, drop, nat_lt}
 use Rattle.std.specs.List.{enumerate_from, flat_map}
 use Rattle.cfs_file.specs.declared.request.Request.{Request}
 use Rattle.cfs_pmem.specs.WordOps.{get, set_ops}
@@ -8,7 +8,6 @@ use Rattle.cfs_slot.specs.Operations.{gets, head_ops, part_ops, stage_ops}
 use Rattle.cfs_slot.specs.Payload.{SlotRead, payload_reads}
 use Rattle.cfs_slot.specs.Staging.{staged_payload}
 use Rattle.cfs_dir.specs.declared.change.Change.{Change}
-use Rattle.cfs_dir.specs.Namespace.{Namespace}
 use Rattle.cfs_journal.specs.Records.{record_ops}
 use Rattle.cfs_journal.specs.Standing.{place}
 use Rattle.cfs_ckpt.specs.Placed.{PlacedOp}
@@ -59,10 +58,13 @@ tag_kept b tag = on_block b (retag_ops tag)
 
 -- ---- staging
 
+abbrev pub part_of : List ℕ → ℕ → List ℕ
+part_of bytes i = take 4096 (drop (4096 * i) bytes)
+
 -- the tails of a long write: each holds the next 4096 bytes behind those of the head
 abbrev pub tails_staged : ℕ → ℕ → ℕ → List ℕ → List ℕ → List Op
 tails_staged ino grant queue bytes tails =
-    flat_map (λ t. on_region (slot queue t.1) (part_ops ino (take 4096 (drop (4096 * t.0) bytes)) grant))
+    flat_map (λ t. on_region (slot queue t.1) (part_ops ino (part_of bytes t.0) grant))
     (enumerate_from 1 tails)
 
 -- A request in slots of a queue, the head first: what one slot holds, or else the tails, ascending,
@@ -84,7 +86,8 @@ staged ino request grant queue (head ∷ tails) =
 -- so many bytes of a payload from a place on, which stands in slots with these device numbers
 abbrev pub payload_read : List ℕ → ℕ → ℕ → List Op
 payload_read devices from len =
-    map (λ (read : SlotRead). Word read.device (get read.at)) (reverse (payload_reads devices from len))
+    map (λ (read : SlotRead). Word read.device (get read.at))
+    (reverse (payload_reads devices from len))
 
 -- the first n words of a region
 abbrev pub words_read : ℕ → ℕ → List Op

@@ -1,5 +1,5 @@
 -- The lines of workers, and the choice of the next piece of work.
-use Rattle.std.specs.Prelude.{ℕ, ◌+◌, ◌==◌, Bool, true, false, not, ◌&&◌, ◌||◌, if◌then◌else◌, min, Option, Some, None, List, [], ◌∷◌, ◌++◌, length, filter, nat_lt, nat_le, is_none, is_some}
+use Rattle.std.specs.Prelude.{ℕ, ◌+◌, ◌==◌, Bool, true, false, not, ◌&&◌, ◌||◌, if◌then◌else◌, min, Option, Some, None, List, [], ◌∷◌, length, filter, nat_lt, nat_le, is_none, is_some}
 use Rattle.std.specs.List.{flat_map, list_any, range_with_len}
 use Rattle.cfs_file.specs.Span.{meets}
 use Rattle.cfs_core.specs.declared.inode_core.Core.{Core}
@@ -108,7 +108,8 @@ work_of f = flat_map (work_at f) (range_with_len 1 (length f.core.tracks))
 -- by ascending record and place
 abbrev pub work : World → List Item
 work world =
-    flat_map (λ rec. flat_map work_of (filter (λ f. f.rec == rec) world.files)) (range_with_len 0 256)
+    flat_map (λ rec. flat_map work_of (filter (λ f. f.rec == rec) world.files))
+    (range_with_len 0 256)
 
 -- What was passed over 64 times or more comes first, and of it what was passed over most; then what
 -- a read waits for. Of equals the earlier item comes first.
@@ -135,8 +136,8 @@ once_more n = min (n + 1) 18446744073709551615
 abbrev pub pass_over : Item → Item → World → World
 pass_over x y world =
     if (x.ino == y.ino) && (x.place == y.place) then world
-    else with_file
-    (with_passed y.place (once_more ((file_in world y.ino).passed y.place)) (file_in world y.ino)) world
+    else let f : File = file_in world y.ino in
+    with_file (with_passed y.place (once_more (f.passed y.place)) f) world
 
 abbrev pub pass_over_all : Item → List Item → World → World
 pass_over_all x [] world = world

@@ -31,11 +31,7 @@ pub fn keep_word<R: Region>(
 
 /// Sets the tag of a block and flushes it, in the same way, where the block leaves all that is read
 /// as it was after a refusal.
-pub fn keep_tag<B: Block>(
-    block: &mut B,
-    meter: &mut Meter,
-    tag: u64,
-) -> Result<(), DeviceFault>
+pub fn keep_tag<B: Block>(block: &mut B, meter: &mut Meter, tag: u64) -> Result<(), DeviceFault>
     ensures attempts { IsTrue B.obeys_power → IsTrue B.keeps_refused →
         AttemptsBlock (retag_ops tag) result
         (asked_of meter.old) (B.seen block.old) (asked_of meter.new) (B.seen block.new) }

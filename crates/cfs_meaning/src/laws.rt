@@ -8,8 +8,8 @@ pub fn cores_stay_reached()
     ensures { CoresStayReached }
 {}
 
-/// Such a core's log is legal, a read that may be served gets its answer, and each image of the core
-/// recovers the file after the log.
+/// Such a core's log is legal, a read that may be served gets its answer, and each image of the
+/// core recovers the file after the log.
 pub fn files_are_good()
     ensures { FilesAreGood }
 {}
