@@ -3,7 +3,7 @@ use cfs_block::MemBlock;
 use cfs_image::{new_image, read_image};
 use cfs_pmem::{MemRegion, Meter, Region};
 use cfs_words::Device;
-use std::alloc::Global;
+use std::alloc::{AllocError, Global};
 use std::test::Fail;
 
 fn region(alloc: Global) -> Result<MemRegion, Fail> {
@@ -12,6 +12,20 @@ fn region(alloc: Global) -> Result<MemRegion, Fail> {
 
 fn keeps(region: &mut MemRegion, meter: &mut Meter, word: u64) -> bool {
     0 < region.len() && keep_word(region, meter, 0, word).is_ok()
+}
+
+fn stop_at(meter: &mut Meter, n: u64) {
+    if n > 0 {
+        stop(meter, n);
+    }
+}
+
+fn plan_at(meter: &mut Meter, n: u64) -> Result<(), AllocError> {
+    if n > 0 {
+        plan(meter, 0, true, n)
+    } else {
+        Ok(())
+    }
 }
 
 // Device numbers of a store of one queue and sixteen blocks: the selector is 0, the slots begin at
@@ -43,13 +57,13 @@ fn steps_are_refused_where_lines_say_so(rt: HostRuntime) -> Result<(), Fail> {
     ] {
         let mut words = region(rt.alloc())?;
         let mut meter = Meter::calm(rt.alloc());
-        stop(&mut meter, n);
+        stop_at(&mut meter, n);
         for kept in stopped {
             assert_eq!(rt; keeps(&mut words, &mut meter, 7), kept, "stop {n}");
         }
         let mut words = region(rt.alloc())?;
         let mut meter = Meter::calm(rt.alloc());
-        plan(&mut meter, 0, true, n)?;
+        plan_at(&mut meter, n)?;
         for kept in planned {
             assert_eq!(rt; keeps(&mut words, &mut meter, 7), kept, "plan {n}");
         }
