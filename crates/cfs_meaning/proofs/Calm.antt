@@ -16,10 +16,10 @@ use Rattle.cfs_meaning.specs.World.{Down, Failed, Phase, Up, World}
 use Rattle.cfs_meaning.specs.Laws.{AreGiven, CalmRunsAnswer, IsCalm, IsGiven, is_calm}
 use Rattle.cfs_meaning.specs.Play.{Step, does, goes_on, mount, mount_line, printed, run_ends, steps_so, unless_off}
 use Rattle.cfs_meaning.specs.Ways.{Fault, Halt, Says, Waits}
-use Rattle.cfs_meaning.proofs.Keeping.{EndsAs, IsSaid, Keeps, keep-give, keep-look, keep-say, keep-then}
-use Rattle.cfs_meaning.proofs.Kept.{Law}
+use Rattle.cfs_meaning.proofs.Keeping.{IsSaid, Keeps, keep-give, keep-look, keep-say, keep-then}
+use Rattle.cfs_meaning.proofs.Worlds.{EndsAs, WorldLaw, law_of, moves}
 use Rattle.cfs_meaning.proofs.KeptLines.{IsGivenIfAny, is_plain, kept-plain}
-use Rattle.cfs_meaning.proofs.Lines.{keep-moved, kept-home}
+use Rattle.cfs_meaning.proofs.Lines.{kept-home}
 
 -- ---- operations of a calm drive
 
@@ -72,9 +72,9 @@ said-given other said = tt
 clash : true ≡ false → ⊥
 clash is = absurd (cc)
 
-abbrev calm_law : ℕ → Law
+abbrev calm_law : ℕ → WorldLaw
 calm_law line = record {
-  base = record {
+  fact = record {
     Holds = λ w. IsCalm w.drive;
     MayBe = λ b. b ≡ true;
     MayEnd = IsNoFault;
@@ -91,14 +91,14 @@ calm_law line = record {
 
 -- ---- mounts
 
-kept-mount : (line : ℕ) → Keeps (calm_law line).base IsGiven mount
+kept-mount : (line : ℕ) → Keeps (law_of (calm_law line)).base IsGiven mount
 kept-mount line =
     keep-look (λ w.
-    keep-then (keep-moved (calm_law line).base (λ here holds. holds)) (λ u a.
-    keep-then (kept-home (calm_law line).base) (λ u a.
-    keep-then (keep-moved (calm_law line).base (λ here holds. holds)) (λ u a. keep-give tt))))
+    keep-then (record { means = moves (calm_law line).fact (λ here holds. holds) }) (λ u a.
+    keep-then (kept-home (law_of (calm_law line)).base) (λ u a.
+    keep-then (record { means = moves (calm_law line).fact (λ here holds. holds) }) (λ u a. keep-give tt))))
 
-kept-phase : (line : ℕ) (phase : Phase) → Keeps (calm_law line).base IsGiven (mount_line phase)
+kept-phase : (line : ℕ) (phase : Phase) → Keeps (law_of (calm_law line)).base IsGiven (mount_line phase)
 kept-phase line Up = keep-say tt
 kept-phase line Down = kept-mount line
 kept-phase line Failed = keep-say tt
@@ -106,24 +106,26 @@ kept-phase line Failed = keep-say tt
 -- ---- lines
 
 kept-rest : (line : ℕ) (form : Form) → is_calm form ≡ true → is_plain form ≡ false →
-    Keeps (calm_law line).base IsGivenIfAny (does line form)
+    Keeps (law_of (calm_law line)).base IsGivenIfAny (does line form)
 kept-rest line (forms.Caller c uid gid) calm rough =
-    keep-then (keep-moved (calm_law line).base (λ here holds. holds)) (λ u a. keep-give tt)
+    keep-then (record { means = moves (calm_law line).fact (λ here holds. holds) }) (λ u a. keep-give tt)
 kept-rest line (forms.Crash k) calm rough =
-    keep-then (keep-then (keep-moved (calm_law line).base (λ here holds.
-    record { steady = refl; unplanned = refl })) (λ u a. keep-give tt))
+    keep-then (keep-then (record {
+      means = moves (calm_law line).fact (λ here holds.
+          record { steady = refl; unplanned = refl });
+    }) (λ u a. keep-give tt))
     (λ answer given. keep-give given)
 kept-rest line forms.Mount calm rough =
     keep-then (keep-look (λ w. kept-phase line w.phase)) (λ answer given. keep-give given)
 kept-rest line form calm rough = absurd (cc)
 
 kept-line : (line : ℕ) (form : Form) → is_calm form ≡ true →
-    Keeps (calm_law line).base IsGivenIfAny (does line form)
+    Keeps (law_of (calm_law line)).base IsGivenIfAny (does line form)
 kept-line line form calm = by-kind (is_plain form) refl
   where
     by-kind : (plain : Bool) → is_plain form ≡ plain →
-        Keeps (calm_law line).base IsGivenIfAny (does line form)
-    by-kind true is = kept-plain (calm_law line) form is
+        Keeps (law_of (calm_law line)).base IsGivenIfAny (does line form)
+    by-kind true is = kept-plain (law_of (calm_law line)) form is
     by-kind false is = kept-rest line form calm is
 
 -- ---- what is printed
@@ -135,7 +137,7 @@ on-given world answer calm given =
     (sym (ap is_off calm.steady)) given
 
 printed-given : (number : ℕ) (world : World) (end : Result (Option Printed) Halt) →
-    IsCalm world.drive → EndsAs (calm_law number).base IsGivenIfAny end →
+    IsCalm world.drive → EndsAs (calm_law number).fact IsGivenIfAny end →
     AreGiven (printed number world end)
 printed-given number world (Ok None) calm given = tt
 printed-given number world (Ok (Some answer)) calm given = (on-given world answer calm given, tt)
@@ -150,7 +152,7 @@ both-given (out ∷ outs) other a b = (a.0, both-given outs other a.1 b)
 step-given : {old new : World} {line : Line} {out : List OutLine} → IsCalm old.drive →
     is_calm line.form ≡ true → Step line old out new → AreGiven out × IsCalm new.drive
 step-given {new = new} {line = line} calm quiet (steps_so end way) =
-    let kept = (kept-line line.number line.form quiet).by _ end new calm way in
+    let kept = (kept-line line.number line.form quiet).means.by _ end new calm way in
     (printed-given line.number new end kept.1 kept.0, kept.1)
 
 pub calm-runs : CalmRunsAnswer

@@ -29,105 +29,80 @@ IsSaid answers.Stopped = ⊥
 IsSaid (answers.Got ino place bytes) = ⊥
 IsSaid other = Unit {0}
 
--- What is kept, what a try of operations may say, and how a part may end.
-pub record Base : Type 1 where
-  pub Holds : World → Type 0
-  pub MayBe : Bool → Type 0
-  pub MayEnd : Halt → Type 0
-  pub tries : (ops : List Op) (world : World) → Holds world →
-      MayBe (attempt ops world.drive).whole
-      × Holds (record world { drive = (attempt ops world.drive).drive })
-  pub quiet : (old new : World) → IsQuiet old new → Holds old → Holds new
-  pub fault : MayBe false → MayEnd Fault
-  pub waits : (place : ℕ) → MayEnd (Waits place)
-  pub says : (answer : Printed) → IsSaid answer → MayEnd (Says answer)
-
-abbrev pub EndsAs : (base : Base) → {A : Type 0} → (A → Type 0) → Result A Halt → Type 0
-EndsAs base R (Ok a) = R a
-EndsAs base R (Err halt) = base.MayEnd halt
-
 -- whatever the value is
 abbrev pub Any : {A : Type 0} → A → Type 0
 Any a = Unit {0}
 
--- the part keeps it, and its value has R
+-- What is known of ways, and that each way of joining parts keeps to it; what a try of operations
+-- may say, and how a part may end. `Means R way`: the way is so, and its value has R.
+pub record Base : Type 1 where
+  pub Means : {A : Type 0} → (A → Type 0) → Way A → Type 0
+  pub MayBe : Bool → Type 0
+  pub MayEnd : Halt → Type 0
+  pub fault : MayBe false → MayEnd Fault
+  pub waits : (place : ℕ) → MayEnd (Waits place)
+  pub says : (answer : Printed) → IsSaid answer → MayEnd (Says answer)
+  pub follow : {A B : Type 0} {R : A → Type 0} {S : B → Type 0} {first : Way A}
+      {next : A → Way B} → Means R first → ((a : A) → R a → Means S (next a)) →
+      Means S (first >>= next)
+  pub giving : {A : Type 0} {R : A → Type 0} {a : A} → R a → Means R (give a)
+  pub ending : {A : Type 0} {R : A → Type 0} {halt : Halt} → MayEnd halt →
+      Means R (end_with {A = A} halt)
+  pub nothing : {A : Type 0} {R : A → Type 0} → Means R (never {A = A})
+  pub looking : Means Any Now
+  pub changing : {change : World → World} → ((world : World) → IsQuiet world (change world)) →
+      Means Any (Changes change)
+  pub trying : {ops : List Op} → Means MayBe (Tries ops)
+  pub repeating : {turn : Way Bool} → Means Any turn → Means Any (Repeats turn)
+  pub mending : {A : Type 0} {R : A → Type 0} {way : Way A} {mend : Way (Unit {0})} →
+      Means R way → Means Any mend → Means R (Mends way mend)
+  pub shrugging : {way : Way (Unit {0})} → Means Any way → Means Any (Shrugs way)
+
+-- the part is so, and its value has R
 pub record Keeps (base : Base) {A : Type 0} (R : A → Type 0) (way : Way A) : Type 0 where
-  pub by : (old : World) (end : Result A Halt) (new : World) → base.Holds old → way old end new →
-      EndsAs base R end × base.Holds new
+  pub means : base.Means R way
 
 -- ---- one after another
-
-then-by : {base : Base} {A B : Type 0} {R : A → Type 0} {S : B → Type 0} {first : Way A}
-    {next : A → Way B} → Keeps base R first → ((a : A) → R a → Keeps base S (next a)) →
-    (old : World) (end : Result B Halt) (new : World) → base.Holds old →
-    Then first next old end new → EndsAs base S end × base.Holds new
-then-by one more old end new holds (ends way) = one.by _ _ _ holds way
-then-by one more old end new holds (follows way rest) =
-    let kept = one.by _ _ _ holds way in (more _ kept.0).by _ _ _ kept.1 rest
 
 pub keep-then : {base : Base} {A B : Type 0} {R : A → Type 0} {S : B → Type 0} {first : Way A}
     {next : A → Way B} → Keeps base R first → ((a : A) → R a → Keeps base S (next a)) →
     Keeps base S (first >>= next)
-keep-then one more = record { by = then-by one more }
+keep-then {base} one more = record { means = base.follow one.means (λ a r. (more a r).means) }
 
 -- ---- single parts
 
-gives-by : (base : Base) {A : Type 0} (R : A → Type 0) {a : A} → R a →
-    (old : World) (end : Result A Halt) (new : World) → base.Holds old → Gives a old end new →
-    EndsAs base R end × base.Holds new
-gives-by base R r old end new holds gives = (r, holds)
-
 pub keep-give : {base : Base} {A : Type 0} {R : A → Type 0} {a : A} → R a → Keeps base R (give a)
-keep-give {base} {R} r = record { by = gives-by base R r }
-
-ends-by : (base : Base) {A : Type 0} (R : A → Type 0) {halt : Halt} → base.MayEnd halt →
-    (old : World) (end : Result A Halt) (new : World) → base.Holds old → Ends halt old end new →
-    EndsAs base R end × base.Holds new
-ends-by base R may old end new holds halts = (may, holds)
+keep-give {base} r = record { means = base.giving r }
 
 pub keep-end : {base : Base} {A : Type 0} {R : A → Type 0} {halt : Halt} → base.MayEnd halt →
     Keeps base R (end_with halt)
-keep-end {base} {R} may = record { by = ends-by base R may }
+keep-end {base} may = record { means = base.ending may }
 
 pub keep-say : {base : Base} {A : Type 0} {R : A → Type 0} {answer : Printed} → IsSaid answer →
     Keeps base R (say answer)
 keep-say {base} {answer} given = keep-end (base.says answer given)
 
 pub keep-never : {base : Base} {A : Type 0} {R : A → Type 0} → Keeps base R never
-keep-never = record { by = λ old end new holds way. absurd way }
+keep-never {base} = record { means = base.nothing }
 
 pub keep-only : {base : Base} (test : Bool) → Keeps base Any (only_if test)
 keep-only true = keep-give tt
 keep-only false = keep-never
 
-now-by : (base : Base) → (old : World) (end : Result World Halt) (new : World) → base.Holds old →
-    Now old end new → EndsAs base Any end × base.Holds new
-now-by base old end new holds now = (tt, holds)
-
 pub keep-now : {base : Base} → Keeps base Any Now
-keep-now {base} = record { by = now-by base }
+keep-now {base} = record { means = base.looking }
 
 -- what follows a look at the world
 pub keep-look : {base : Base} {A : Type 0} {S : A → Type 0} {next : World → Way A} →
     ((world : World) → Keeps base S (next world)) → Keeps base S (Now >>= next)
 keep-look more = keep-then keep-now (λ world any. more world)
 
-changes-by : (base : Base) {change : World → World} →
-    ((world : World) → IsQuiet world (change world)) →
-    (old : World) (end : Result (Unit {0}) Halt) (new : World) → base.Holds old →
-    Changes change old end new → EndsAs base Any end × base.Holds new
-changes-by base quiet old end new holds changes = (tt, base.quiet _ _ (quiet old) holds)
-
 pub keep-changes : {base : Base} {change : World → World} →
     ((world : World) → IsQuiet world (change world)) → Keeps base Any (Changes change)
-keep-changes {base} quiet = record { by = changes-by base quiet }
-
-tries-by : (base : Base) {ops : List Op} (old : World) (end : Result Bool Halt) (new : World) →
-    base.Holds old → Tries ops old end new → EndsAs base base.MayBe end × base.Holds new
-tries-by base {ops} old end new holds tried = base.tries ops old holds
+keep-changes {base} quiet = record { means = base.changing quiet }
 
 pub keep-tries : {base : Base} {ops : List Op} → Keeps base base.MayBe (Tries ops)
-keep-tries {base} = record { by = tries-by base }
+keep-tries {base} = record { means = base.trying }
 
 pub keep-unless : {base : Base} (kept : Bool) → base.MayBe kept → Keeps base Any (unless_fault kept)
 keep-unless true may = keep-give tt
@@ -165,40 +140,14 @@ keep-each (a ∷ rest) kept = keep-then (kept a) (λ u any. keep-each rest kept)
 
 -- ---- again, and after a fault
 
-repeats-by : {base : Base} {turn : Way Bool} → Keeps base Any turn →
-    (old : World) (end : Result ℕ Halt) (new : World) → base.Holds old →
-    Repeats turn old end new → EndsAs base Any end × base.Holds new
-repeats-by kept old end new holds (breaks way) = kept.by _ _ _ holds way
-repeats-by kept old end new holds (rests way) = (tt, (kept.by _ _ _ holds way).1)
-repeats-by kept old end new holds (counts way more) =
-    (tt, (repeats-by kept _ _ _ (kept.by _ _ _ holds way).1 more).1)
-repeats-by kept old end new holds (breaks_later way more) =
-    repeats-by kept _ _ _ (kept.by _ _ _ holds way).1 more
-
 pub keep-repeats : {base : Base} {turn : Way Bool} → Keeps base Any turn →
     Keeps base Any (Repeats turn)
-keep-repeats kept = record { by = repeats-by kept }
-
-mends-by : {base : Base} {A : Type 0} {R : A → Type 0} {way : Way A} {mend : Way (Unit {0})} →
-    Keeps base R way → Keeps base Any mend →
-    (old : World) (end : Result A Halt) (new : World) → base.Holds old →
-    Mends way mend old end new → EndsAs base R end × base.Holds new
-mends-by one other old end new holds (well way) = one.by _ _ _ holds way
-mends-by one other old end new holds (waits way) = one.by _ _ _ holds way
-mends-by one other old end new holds (says way) = one.by _ _ _ holds way
-mends-by one other old end new holds (mends way mend) =
-    let kept = one.by _ _ _ holds way in (kept.0, (other.by _ _ _ kept.1 mend).1)
+keep-repeats {base} kept = record { means = base.repeating kept.means }
 
 pub keep-mends : {base : Base} {A : Type 0} {R : A → Type 0} {way : Way A} {mend : Way (Unit {0})} →
     Keeps base R way → Keeps base Any mend → Keeps base R (Mends way mend)
-keep-mends one other = record { by = mends-by one other }
-
-shrugs-by : {base : Base} {way : Way (Unit {0})} → Keeps base Any way →
-    (old : World) (end : Result (Unit {0}) Halt) (new : World) → base.Holds old →
-    Shrugs way old end new → EndsAs base Any end × base.Holds new
-shrugs-by kept old end new holds (whole way) = kept.by _ _ _ holds way
-shrugs-by kept old end new holds (shrugs way) = (tt, (kept.by _ _ _ holds way).1)
+keep-mends {base} one other = record { means = base.mending one.means other.means }
 
 pub keep-shrugs : {base : Base} {way : Way (Unit {0})} → Keeps base Any way →
     Keeps base Any (Shrugs way)
-keep-shrugs kept = record { by = shrugs-by kept }
+keep-shrugs {base} kept = record { means = base.shrugging kept.means }

@@ -11,8 +11,8 @@ use Rattle.cfs_meaning.specs.NameSteps.{closing}
 use Rattle.cfs_meaning.specs.World.{Descriptor, World, core_in}
 use Rattle.cfs_meaning.specs.Inode.{Absent, Behind, Ready, Verdict, serve_verdict}
 use Rattle.cfs_meaning.specs.Ways.{Halt, Waits, Way, known}
-use Rattle.cfs_meaning.specs.Files.{Defers, Helps, admit_write, append, clear_way, close, collect, collected, defers, fails, fails_first, faults, find_room, ftruncate, help_lowest, help_some, helps_first, in_the_way, is_behind, is_out_itself, list_queue, lseek, make_room, opened, opened_to_read, opened_to_write, post, pwrite, read_or_sync, room_or_full, say_served, serve_helped, serve_posted, serves, skips, stage_and_admit, works, works_on, write}
-use Rattle.cfs_meaning.proofs.Keeping.{Any, EndsAs, IsQuiet, IsSaid, Keeps, keep-changes, keep-choose, keep-each, keep-end, keep-give, keep-look, keep-mends, keep-refuse, keep-repeats, keep-say, keep-steps, keep-then, keep-when}
+use Rattle.cfs_meaning.specs.Files.{Defers, Helps, move_by, admit_write, append, clear_way, close, collect, collected, defers, fails, fails_first, faults, find_room, ftruncate, help_lowest, help_some, helps_first, in_the_way, is_behind, is_out_itself, list_queue, lseek, make_room, opened, opened_to_read, opened_to_write, post, pwrite, read_or_sync, room_or_full, say_served, serve_helped, serve_posted, serves, skips, stage_and_admit, works, works_on, write}
+use Rattle.cfs_meaning.proofs.Keeping.{Any, IsQuiet, IsSaid, Keeps, keep-changes, keep-choose, keep-each, keep-end, keep-give, keep-look, keep-mends, keep-refuse, keep-repeats, keep-say, keep-steps, keep-then, keep-when}
 use Rattle.cfs_meaning.proofs.KeptInode.{kept-admit, kept-drop, kept-job, kept-read, kept-serve, kept-settle, kept-skip}
 use Rattle.cfs_meaning.proofs.KeptNames.{kept-ask-purge}
 use Rattle.cfs_meaning.proofs.Kept.{Law}
@@ -20,24 +20,10 @@ use Rattle.cfs_meaning.proofs.Quiet.{quiet-by, quiet-descriptors, quiet-move, qu
 
 -- ---- helping
 
-helps-by : (law : Law) {ino place : ℕ} (old : World) (end : Result (Unit {0}) Halt) (new : World) →
-    law.base.Holds old → Helps ino place old end new → EndsAs law.base Any end × law.base.Holds new
-helps-by law {ino} {place} old end new holds (skips is way) =
-    (kept-skip law ino place).by _ _ _ holds way
-helps-by law {ino} {place} old end new holds (is_out_itself is) = (law.base.waits place, holds)
-helps-by law old end new holds (is_behind {q = q} is stuck) = (law.base.waits q, holds)
-helps-by law old end new holds (helps_first is free first rest) =
-    helps-by law _ _ _ (helps-by law _ _ _ holds first).1 rest
-helps-by law old end new holds (fails_first is free first) = helps-by law _ _ _ holds first
-helps-by law {ino} {place} old end new holds (works is job) =
-    (tt, ((kept-job law ino place).by _ _ _ holds job).1)
-helps-by law {ino} {place} old end new holds (works_on is job rest) =
-    helps-by law _ _ _ ((kept-job law ino place).by _ _ _ holds job).1 rest
-helps-by law {ino} {place} old end new holds (fails is job) =
-    (kept-job law ino place).by _ _ _ holds job
-
 pub kept-help : (law : Law) (ino place : ℕ) → Keeps law.base Any (Helps ino place)
-kept-help law ino place = record { by = helps-by law }
+kept-help law ino place = record {
+  means = law.helps ino (λ p. (kept-skip law ino p).means) (λ p. (kept-job law ino p).means) place;
+}
 
 -- ---- slots
 
@@ -155,18 +141,6 @@ kept-served law ino place =
     keep-mends (keep-then (keep-repeats (kept-clear law ino place)) (λ u a.
     kept-serve law ino place)) (kept-drop law ino place)
 
-defers-by : (law : Law) {ino place : ℕ} {way : Way (List ℕ)} {move : World → World} →
-    Keeps law.base Any way → ((w : World) → IsQuiet w (move w)) →
-    (old : World) (end : Result (List ℕ) Halt) (new : World) → law.base.Holds old →
-    Defers ino place way move old end new → EndsAs law.base Any end × law.base.Holds new
-defers-by law {move} kept quiet old end new holds (serves {new = mid} {bytes = bytes} done) =
-    (tt, law.base.quiet mid (move mid) (quiet mid) (kept.by old (Ok bytes) mid holds done).1)
-defers-by law {move} kept quiet old end new holds (defers {new = mid} {q = q} waits) = (
-  law.base.says _ tt,
-  law.base.quiet mid (move mid) (quiet mid) (kept.by old (Err (Waits q)) mid holds waits).1,
-)
-defers-by law kept quiet old end new holds (faults fault) = kept.by _ _ _ holds fault
-
 kept-say : (law : Law) (ino place : ℕ) (bytes : List ℕ) →
     Keeps law.base IsGiven (say_served ino place bytes)
 kept-say law ino place bytes =
@@ -181,7 +155,9 @@ pub kept-read-or-sync : (law : Law) (d : Descriptor) (c : ℕ) (request : Reques
 kept-read-or-sync law d c request moves =
     keep-then (kept-read law d c request) (λ place a.
     keep-then (record {
-      by = defers-by law (kept-served law d.grant.ino place) (quiet-by c d moves place);
+      means = law.defers d.grant.ino place (serve_helped d.grant.ino place)
+          (move_by c d moves place) (kept-served law d.grant.ino place).means
+          (quiet-by c d moves place);
     }) (λ bytes a. kept-say law d.grant.ino place bytes))
 
 pub kept-post : (law : Law) (d : Descriptor) (c : ℕ) (request : Request) →

@@ -5,6 +5,7 @@ pub mod KeptInode
 pub mod KeptNames
 pub mod KeptFiles
 pub mod KeptLines
+pub mod Worlds
 pub mod Lines
 pub mod Reached
 pub mod Calm
@@ -13,3 +14,4 @@ pub mod LineLogs
 pub mod ReadLines
 pub mod Attempts
 pub mod Derived
+pub mod Only

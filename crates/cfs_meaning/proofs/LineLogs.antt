@@ -12,7 +12,8 @@ use Rattle.cfs_meaning.specs.World.{File, core_in}
 use Rattle.cfs_meaning.specs.Laws.{AreLogsOfLines, AreOfLines, LogsFollowLines, OfEachCore}
 use Rattle.cfs_meaning.specs.Play.{steps_so}
 use Rattle.cfs_meaning.proofs.Keeping.{Any}
-use Rattle.cfs_meaning.proofs.Kept.{IsOfLine, Law}
+use Rattle.cfs_meaning.proofs.Kept.{IsOfLine}
+use Rattle.cfs_meaning.proofs.Worlds.{WorldLaw, law_of, moves}
 use Rattle.cfs_meaning.proofs.Lines.{Powers, line-kept}
 use Rattle.cfs_meaning.proofs.Quiet as quiet
 use Rattle.cfs_meaning.proofs.Reached.{all-made-have}
@@ -57,9 +58,9 @@ after-event line core events.Mount own all = omega arith
 abbrev Goes : ℕ → ℕ → Core → Type 0
 Goes line ino core = AreOfLines 0 line core.log
 
-abbrev log_law : ℕ → Law
+abbrev log_law : ℕ → WorldLaw
 log_law line = record {
-  base = record {
+  fact = record {
     Holds = AreLogsOfLines line;
     MayBe = Any;
     MayEnd = Any;
@@ -80,12 +81,12 @@ log_law line = record {
       (all-made-have (Goes line) (λ ino. omega arith) (changes_of world.names.now request rec));
 }
 
-log-powers : (line : ℕ) → Powers (log_law line)
+log-powers : (line : ℕ) → Powers (law_of (log_law line))
 log-powers line = record {
-  joins = λ c uid gid world holds. holds;
-  stops = λ n world holds. holds;
-  plans = λ device writing k world holds. holds;
-  crashes = λ k world holds. holds;
+  joins = λ c uid gid. moves (log_law line).fact (λ world holds. holds);
+  stops = λ n. moves (log_law line).fact (λ world holds. holds);
+  plans = λ device writing k. moves (log_law line).fact (λ world holds. holds);
+  crashes = λ k. moves (log_law line).fact (λ world holds. holds);
 }
 
 all-widened : (to more : ℕ) (files : List File) → to ≤ more → OfEachCore (Goes to) files →

@@ -11,39 +11,25 @@ use Rattle.cfs_meaning.specs.Mounting.{mount_steps}
 use Rattle.cfs_meaning.specs.Laws.{IsGiven}
 use Rattle.cfs_meaning.specs.Play.{crash_in, does, joined, mount_line, plan, planned, stopped}
 use Rattle.cfs_meaning.specs.Ways.{Changes, changes, Fault, Halt, Says, ends, follows, gives, halts, now}
-use Rattle.cfs_meaning.proofs.Keeping.{Any, Base, EndsAs, Keeps, keep-each, keep-give, keep-known, keep-look, keep-steps, keep-then, keep-when}
+use Rattle.cfs_meaning.proofs.Keeping.{Any, Base, Keeps, keep-each, keep-give, keep-known, keep-look, keep-steps, keep-then, keep-when}
 use Rattle.cfs_meaning.proofs.KeptLines.{IsGivenIfAny, is_plain, kept-plain}
 use Rattle.cfs_meaning.proofs.Kept.{Law}
+use Rattle.cfs_meaning.proofs.Worlds.{EndsAs, WorldLaw, law_of}
 
-moved-by : (base : Base) {change : World → World} →
-    ((world : World) → base.Holds world → base.Holds (change world)) →
-    (old : World) (end : Result (Unit {0}) Halt) (new : World) → base.Holds old →
-    Changes change old end new → EndsAs base Any end × base.Holds new
-moved-by base kept old end new holds changes = (tt, kept old holds)
-
--- a change that keeps what holds
-pub keep-moved : (base : Base) {change : World → World} →
-    ((world : World) → base.Holds world → base.Holds (change world)) →
-    Keeps base Any (Changes change)
-keep-moved base kept = record { by = moved-by base kept }
-
--- what stops, plans and callers leave is kept
+-- what stops, plans, crashes and callers change is kept to
 pub record Powers (law : Law) : Type 0 where
-  pub joins : (c uid gid : ℕ) (world : World) → law.base.Holds world →
-      law.base.Holds (joined c uid gid world)
-  pub stops : (n : ℕ) (world : World) → law.base.Holds world →
-      law.base.Holds (with_drive (stopped n) world)
-  pub plans : (device : ℕ) (writing : Bool) (k : ℕ) (world : World) → law.base.Holds world →
-      law.base.Holds (with_drive (planned device writing k) world)
-  pub crashes : (k : ℕ) (world : World) → law.base.Holds world →
-      law.base.Holds (crash_in k world)
+  pub joins : (c uid gid : ℕ) → law.base.Means Any (Changes (joined c uid gid))
+  pub stops : (n : ℕ) → law.base.Means Any (Changes (with_drive (stopped n)))
+  pub plans : (device : ℕ) (writing : Bool) (k : ℕ) →
+      law.base.Means Any (Changes (with_drive (planned device writing k)))
+  pub crashes : (k : ℕ) → law.base.Means Any (Changes (crash_in k))
 
 kept-plan : (law : Law) → Powers law → (device : Device) (writing : Bool) (k : ℕ) →
     Keeps law.base IsGiven (plan device writing k)
 kept-plan law powers device writing k =
     keep-look (λ w.
     keep-then (keep-known _ _ tt) (λ number is.
-    keep-then (keep-moved law.base (powers.plans number writing k)) (λ u a. keep-give tt)))
+    keep-then (record { means = powers.plans number writing k }) (λ u a. keep-give tt)))
 
 abbrev pub is_mount : Form → Bool
 is_mount forms.Mount = true
@@ -52,12 +38,12 @@ is_mount other = false
 pub kept-power : (law : Law) → Powers law → (form : Form) → is_plain form ≡ false →
     is_mount form ≡ false → Keeps law.base IsGivenIfAny (does law.line form)
 kept-power law powers (forms.Caller c uid gid) rough other =
-    keep-then (keep-moved law.base (powers.joins c uid gid)) (λ u a. keep-give tt)
+    keep-then (record { means = powers.joins c uid gid }) (λ u a. keep-give tt)
 kept-power law powers (forms.Stop n) rough other =
-    keep-then (keep-then (keep-moved law.base (powers.stops n)) (λ u a. keep-give tt))
+    keep-then (keep-then (record { means = powers.stops n }) (λ u a. keep-give tt))
     (λ answer given. keep-give given)
 kept-power law powers (forms.Crash k) rough other =
-    keep-then (keep-then (keep-moved law.base (powers.crashes k)) (λ u a. keep-give tt))
+    keep-then (keep-then (record { means = powers.crashes k }) (λ u a. keep-give tt))
     (λ answer given. keep-give given)
 kept-power law powers forms.Mount rough other = absurd (cc)
 kept-power law powers (forms.Fail device k) rough other =
@@ -116,27 +102,27 @@ pub only-mount : (form : Form) → is_mount form ≡ true → form ≡ forms.Mou
 only-mount forms.Mount is = refl
 only-mount form is = absurd (cc)
 
-says-kept : (law : Law) (end : Result (Option Printed) Halt) → end ≡ Err (Says answers.Mounted) →
-    EndsAs law.base IsGivenIfAny end
+says-kept : (law : WorldLaw) (end : Result (Option Printed) Halt) → end ≡ Err (Says answers.Mounted) →
+    EndsAs law.fact IsGivenIfAny end
 says-kept law (Ok answer) is = absurd (cc)
 says-kept law (Err halt) is =
-    subst law.base.MayEnd (sym (ap halt-of is)) (law.base.says answers.Mounted tt)
+    subst law.fact.MayEnd (sym (ap halt-of is)) (law.fact.says answers.Mounted tt)
   where
     halt-of : Result (Option Printed) Halt → Halt
     halt-of (Ok answer) = Fault
     halt-of (Err h) = h
 
 -- each line of a mounted store keeps the law
-pub line-kept : (law : Law) → Powers law → (form : Form) (old : World)
-    (end : Result (Option Printed) Halt) (new : World) → old.phase ≡ Up → law.base.Holds old →
-    does law.line form old end new → EndsAs law.base IsGivenIfAny end × law.base.Holds new
+pub line-kept : (law : WorldLaw) → Powers (law_of law) → (form : Form) (old : World)
+    (end : Result (Option Printed) Halt) (new : World) → old.phase ≡ Up → law.fact.Holds old →
+    does law.line form old end new → EndsAs law.fact IsGivenIfAny end × law.fact.Holds new
 line-kept law powers form old end new up holds way = by-kind (is_mount form) refl
   where
     by-kind : (mount : Bool) → is_mount form ≡ mount →
-        EndsAs law.base IsGivenIfAny end × law.base.Holds new
-    by-kind false is = (kept-form law powers form is).by old end new holds way
+        EndsAs law.fact IsGivenIfAny end × law.fact.Holds new
+    by-kind false is = (kept-form (law_of law) powers form is).means.by old end new holds way
     by-kind true is =
         let here : does law.line forms.Mount old end new =
         subst (λ f. does law.line f old end new) (only-mount form is) way in
         let same = mount-up law.line old end new up here in
-        (says-kept law end same.0, subst law.base.Holds (sym same.1) holds)
+        (says-kept law end same.0, subst law.fact.Holds (sym same.1) holds)

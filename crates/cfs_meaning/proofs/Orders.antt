@@ -8,9 +8,9 @@ use Rattle.cfs_meaning.specs.World.{Down, Failed, Phase, Up}
 use Rattle.cfs_meaning.specs.Laws.{AreNamesLegal, IsGiven, NamesStayLegal}
 use Rattle.cfs_meaning.specs.Play.{does, mount, mount_line, steps_so}
 use Rattle.cfs_meaning.proofs.Keeping.{Any, Keeps, keep-give, keep-look, keep-say, keep-then}
-use Rattle.cfs_meaning.proofs.Kept.{Law}
+use Rattle.cfs_meaning.proofs.Worlds.{WorldLaw, law_of, moves}
 use Rattle.cfs_meaning.proofs.KeptLines.{IsGivenIfAny}
-use Rattle.cfs_meaning.proofs.Lines.{Powers, is_mount, keep-moved, kept-form, kept-home, only-mount}
+use Rattle.cfs_meaning.proofs.Lines.{Powers, is_mount, kept-form, kept-home, only-mount}
 
 alike : {q q' : ℕ} {b b' : Order} {l l' : List NameEntry} {n n' : Order} → q' ≡ q → b' ≡ b →
     l' ≡ l → n' ≡ n → AreInOrder q b l n → AreInOrder q' b' l' n'
@@ -20,9 +20,9 @@ alike {q} {q'} {b} {b'} {l} {l'} {n} {n'} queues base log now legal =
     (subst (λ k. AreInOrder q b k n') (sym log)
     (subst (λ k. AreInOrder q b l k) (sym now) legal)))
 
-abbrev order_law : ℕ → Law
+abbrev order_law : ℕ → WorldLaw
 order_law line = record {
-  base = record {
+  fact = record {
     Holds = AreNamesLegal;
     MayBe = Any;
     MayEnd = Any;
@@ -39,37 +39,37 @@ order_law line = record {
       (record { caller = c; line = line; request = request; rec = rec; answer = step.0 }) holds is;
 }
 
-order-powers : (line : ℕ) → Powers (order_law line)
+order-powers : (line : ℕ) → Powers (law_of (order_law line))
 order-powers line = record {
-  joins = λ c uid gid world holds. holds;
-  stops = λ n world holds. holds;
-  plans = λ device writing k world holds. holds;
-  crashes = λ k world holds. holds;
+  joins = λ c uid gid. moves (order_law line).fact (λ world holds. holds);
+  stops = λ n. moves (order_law line).fact (λ world holds. holds);
+  plans = λ device writing k. moves (order_law line).fact (λ world holds. holds);
+  crashes = λ k. moves (order_law line).fact (λ world holds. holds);
 }
 
-kept-mount : (line : ℕ) → Keeps (order_law line).base IsGiven mount
+kept-mount : (line : ℕ) → Keeps (law_of (order_law line)).base IsGiven mount
 kept-mount line =
     keep-look (λ w.
-    keep-then (keep-moved (order_law line).base (λ here holds. holds)) (λ u a.
-    keep-then (kept-home (order_law line).base) (λ u a.
-    keep-then (keep-moved (order_law line).base (λ here holds. refl)) (λ u a. keep-give tt))))
+    keep-then (record { means = moves (order_law line).fact (λ here holds. holds) }) (λ u a.
+    keep-then (kept-home (law_of (order_law line)).base) (λ u a.
+    keep-then (record { means = moves (order_law line).fact (λ here holds. refl) }) (λ u a. keep-give tt))))
 
-kept-phase : (line : ℕ) (phase : Phase) → Keeps (order_law line).base IsGiven (mount_line phase)
+kept-phase : (line : ℕ) (phase : Phase) → Keeps (law_of (order_law line)).base IsGiven (mount_line phase)
 kept-phase line Up = keep-say tt
 kept-phase line Down = kept-mount line
 kept-phase line Failed = keep-say tt
 
-kept-line : (line : ℕ) (form : Form) → Keeps (order_law line).base IsGivenIfAny (does line form)
+kept-line : (line : ℕ) (form : Form) → Keeps (law_of (order_law line)).base IsGivenIfAny (does line form)
 kept-line line form = by-kind (is_mount form) refl
   where
     by-kind : (mounts : Bool) → is_mount form ≡ mounts →
-        Keeps (order_law line).base IsGivenIfAny (does line form)
-    by-kind false is = kept-form (order_law line) (order-powers line) form is
+        Keeps (law_of (order_law line)).base IsGivenIfAny (does line form)
+    by-kind false is = kept-form (law_of (order_law line)) (order-powers line) form is
     by-kind true is =
-        subst (λ f. Keeps (order_law line).base IsGivenIfAny (does line f))
+        subst (λ f. Keeps (law_of (order_law line)).base IsGivenIfAny (does line f))
         (sym (only-mount form is))
         (keep-then (keep-look (λ w. kept-phase line w.phase)) (λ answer given. keep-give given))
 
 pub names-stay : NamesStayLegal
 names-stay old new line out (steps_so end way) legal =
-    ((kept-line line.number line.form).by old end new legal way).1
+    ((kept-line line.number line.form).means.by old end new legal way).1

@@ -17,7 +17,7 @@ use Rattle.cfs_meaning.specs.Names.{files_made}
 use Rattle.cfs_meaning.specs.Laws.{AreReached, CoresStayReached, FilesAreGood, OfEachCore}
 use Rattle.cfs_meaning.specs.Play.{steps_so}
 use Rattle.cfs_meaning.proofs.Keeping.{Any}
-use Rattle.cfs_meaning.proofs.Kept.{Law}
+use Rattle.cfs_meaning.proofs.Worlds.{WorldLaw, law_of, moves}
 use Rattle.cfs_meaning.proofs.Lines.{Powers, line-kept}
 use Rattle.cfs_meaning.proofs.Quiet as quiet
 
@@ -61,9 +61,9 @@ all-made-have P empty (change ∷ list) =
 abbrev Reached : ℕ → Core → Type 0
 Reached ino core = IsReached core
 
-abbrev pub reached_law : ℕ → Law
+abbrev pub reached_law : ℕ → WorldLaw
 reached_law line = record {
-  base = record {
+  fact = record {
     Holds = AreReached;
     MayBe = Any;
     MayEnd = Any;
@@ -84,12 +84,12 @@ reached_law line = record {
       (all-made-have Reached (λ ino. empty-reached) (changes_of world.names.now request rec));
 }
 
-reached-powers : (line : ℕ) → Powers (reached_law line)
+reached-powers : (line : ℕ) → Powers (law_of (reached_law line))
 reached-powers line = record {
-  joins = λ c uid gid world holds. holds;
-  stops = λ n world holds. holds;
-  plans = λ device writing k world holds. holds;
-  crashes = λ k world holds. holds;
+  joins = λ c uid gid. moves (reached_law line).fact (λ world holds. holds);
+  stops = λ n. moves (reached_law line).fact (λ world holds. holds);
+  plans = λ device writing k. moves (reached_law line).fact (λ world holds. holds);
+  crashes = λ k. moves (reached_law line).fact (λ world holds. holds);
 }
 
 pub cores-stay : CoresStayReached

@@ -30,13 +30,17 @@ use Rattle.cfs_print.specs.declared.out_line.OutLine.{OutLine}
 use Rattle.cfs_meaning.specs.Play.{answer_of, does, printed, steps_so, up, while_up}
 use Rattle.cfs_meaning.specs.Laws.{AreReached, IsReadAt, OfEachCore, ReadsAreRight, is_reading}
 use Rattle.cfs_meaning.specs.Ways.{Fault, Halt, Says, Waits, Way, ends, follows, gives, mends, now, says, waits, well, ◌>>=◌}
-use Rattle.cfs_meaning.proofs.Keeping.{Any, EndsAs, IsSaid, Keeps, keep-refuse, keep-repeats, keep-steps}
+use Rattle.cfs_meaning.proofs.Keeping.{Any, IsSaid, Keeps, keep-refuse, keep-repeats, keep-steps}
 use Rattle.cfs_meaning.proofs.KeptInode.{kept-read}
 use Rattle.cfs_meaning.proofs.KeptFiles.{kept-clear, kept-opened, kept-to-read}
 use Rattle.cfs_meaning.proofs.KeptLines.{IsGivenIfAny, is_plain, kept-plain}
 use Rattle.cfs_meaning.proofs.Kept.{Law}
+use Rattle.cfs_meaning.proofs.Worlds.{EndsAs, WorldLaw, law_of}
 use Rattle.cfs_meaning.proofs.Quiet as quiet
 use Rattle.cfs_meaning.proofs.Reached.{empty-reached, reached_law}
+
+abbrev its_law : ℕ → Law
+its_law line = law_of (reached_law line)
 
 -- ---- of one core
 
@@ -174,14 +178,14 @@ serve-right line ino place old end new reached (follows now (follows stepped (en
 serve-right line ino place old end new reached
     (follows now (follows {mid = here} stepped (follows (comes may_be) gives))) =
     event-right ino place _ here
-    ((keep-steps {base = (reached_law line).base}).by old (Ok tt) here reached stepped).1 may_be
+    ((keep-steps {base = (its_law line).base}).means.by old (Ok tt) here reached stepped).1 may_be
 
 helped-right : (line ino place : ℕ) (old : World) (end : Result (List ℕ) Halt) (new : World) →
     AreReached old → serve_helped ino place old end new → IfRead ino place end new
 helped-right line ino place old end new reached
     (well (follows {mid = mid} {end = done} cleared way)) =
     serve-right line ino place mid done new
-    ((keep-repeats (kept-clear (reached_law line) ino place)).by old _ mid reached cleared).1 way
+    ((keep-repeats (kept-clear (its_law line) ino place)).means.by old _ mid reached cleared).1 way
 helped-right line ino place old end new reached (waits way) = tt
 helped-right line ino place old end new reached (says way) = tt
 helped-right line ino place old end new reached (mends way mend) = tt
@@ -251,7 +255,7 @@ read-right line d c request moves old end new reached
     say-right d.grant.ino place bytes two end new
     (defer-right line d.grant.ino place (move_by c d moves place) (move-files c d moves place)
     one (Ok bytes) two
-    ((kept-read (reached_law line) d c request).by old _ one reached admitted).1 served) said
+    ((kept-read (its_law line) d c request).means.by old _ one reached admitted).1 served) said
 
 posted-right : (line : ℕ) (d : Descriptor) (place : ℕ) → IsRight (serve_posted d place)
 unfolding IsRight
@@ -262,16 +266,16 @@ posted-right line d place old end new reached
     (follows now (follows {mid = one} refused (follows {mid = two} {a = bytes} served said))) =
     say-right d.grant.ino place bytes two end new
     (helped-right line d.grant.ino place one (Ok bytes) two
-    ((keep-refuse {base = (reached_law line).base} _ _ tt).by old _ one reached refused).1 served)
+    ((keep-refuse {base = (its_law line).base} _ _ tt).means.by old _ one reached refused).1 served)
     said
 
 then-right : (line : ℕ) {A : Type 0} (first : Way A) (next : A → Way Printed) →
-    Keeps (reached_law line).base Any first → ((a : A) → IsRight (next a)) →
+    Keeps (its_law line).base Any first → ((a : A) → IsRight (next a)) →
     IsRight (first >>= next)
 unfolding IsRight
 then-right line first next kept right old end new reached (ends way) = tt
 then-right line first next kept right old end new reached (follows {mid = mid} {a = a} way rest) =
-    right a mid end new (kept.by old _ mid reached way).1 rest
+    right a mid end new (kept.means.by old _ mid reached way).1 rest
 
 -- ---- of whole lines
 
@@ -298,16 +302,16 @@ form-right : (line : ℕ) (form : Form) → is_reading form ≡ true → (old : 
     (end : Result (Option Printed) Halt) (new : World) → AreReached old → old.phase ≡ Up →
     does line form old end new → IfPrints end new
 form-right line (forms.Read c fd n) reads =
-    up-right _ (then-right line _ _ (kept-to-read (reached_law line) c fd)
+    up-right _ (then-right line _ _ (kept-to-read (its_law line) c fd)
     (λ d. read-right line d c _ true))
 form-right line (forms.Pread c fd offset n) reads =
-    up-right _ (then-right line _ _ (kept-to-read (reached_law line) c fd)
+    up-right _ (then-right line _ _ (kept-to-read (its_law line) c fd)
     (λ d. read-right line d c _ false))
 form-right line (forms.Serve c fd place) reads =
-    up-right _ (then-right line _ _ (kept-opened (reached_law line) c fd)
+    up-right _ (then-right line _ _ (kept-opened (its_law line) c fd)
     (λ d. posted-right line d place))
 form-right line (forms.Fsync c fd) reads =
-    up-right _ (then-right line _ _ (kept-opened (reached_law line) c fd)
+    up-right _ (then-right line _ _ (kept-opened (its_law line) c fd)
     (λ d. read-right line d c _ false))
 form-right line form reads = absurd (cc)
 
@@ -325,9 +329,9 @@ abbrev IsSaidHalt : Halt → Type 0
 IsSaidHalt (Says answer) = IsSaid answer
 IsSaidHalt other = Unit {0}
 
-abbrev said_law : ℕ → Law
+abbrev said_law : ℕ → WorldLaw
 said_law line = record {
-  base = record {
+  fact = record {
     Holds = Any;
     MayBe = Any;
     MayEnd = IsSaidHalt;
@@ -375,7 +379,7 @@ answer_in (out ∷ outs) = out.answer
 
 printed-right : (number : ℕ) (world : World) (end : Result (Option Printed) Halt)
     (at ino place : ℕ) (bytes : List ℕ) → IfPrints end world →
-    EndsAs (said_law number).base IsGivenIfAny end →
+    EndsAs (said_law number).fact IsGivenIfAny end →
     printed number world end
     ≡ record { number = at; answer = answers.Got ino place bytes } ∷ [] →
     IsRead ino place bytes world
@@ -390,5 +394,5 @@ pub reads-right : ReadsAreRight
 reads-right old new line out number ino place bytes mounted reached reads (steps_so end way) is =
     printed-right line.number new end number ino place bytes
     (form-right line.number line.form reads old end new reached mounted way)
-    ((kept-plain (said_law line.number) line.form (reading-plain line.form reads)).by
+    ((kept-plain (law_of (said_law line.number)) line.form (reading-plain line.form reads)).means.by
     old end new tt way).0 is
