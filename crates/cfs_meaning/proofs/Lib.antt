@@ -15,3 +15,4 @@ pub mod ReadLines
 pub mod Attempts
 pub mod Derived
 pub mod Only
+pub mod OnlyHelps

@@ -17,21 +17,21 @@ pub record Single {A : Type 0} (R : A → Type 0) (way : Way A) : Type 0 where
 -- ---- ends
 
 -- the same end of what goes on
-abbrev ended : {A B : Type 0} → Result A Halt → Result B Halt
+abbrev pub ended : {A B : Type 0} → Result A Halt → Result B Halt
 ended (Ok a) = Err Fault
 ended (Err halt) = Err halt
 
-abbrev is_ended : {A : Type 0} → Result A Halt → Bool
+abbrev pub is_ended : {A : Type 0} → Result A Halt → Bool
 is_ended (Ok a) = false
 is_ended (Err halt) = true
 
 clash : {C : Type 0} → true ≡ false → C
 clash is = absurd (cc)
 
-err-ok : {A C : Type 0} (halt : Halt) (a : A) → Err halt ≡ Ok a → C
+pub err-ok : {A C : Type 0} (halt : Halt) (a : A) → Err halt ≡ Ok a → C
 err-ok halt a is = clash (ap is_ended is)
 
-ok-err : {A C : Type 0} (a : A) (halt : Halt) → Ok a ≡ Err halt → C
+pub ok-err : {A C : Type 0} (a : A) (halt : Halt) → Ok a ≡ Err halt → C
 ok-err a halt is = clash (sym (ap is_ended is))
 
 abbrev value_or : {A : Type 0} → A → Result A Halt → A
@@ -107,10 +107,10 @@ abbrev one_more : Result ℕ Halt → Result ℕ Halt
 one_more (Ok n) = Ok (suc n)
 one_more (Err halt) = Err halt
 
-abbrev turned : Bool → Result Bool Halt
+abbrev pub turned : Bool → Result Bool Halt
 turned b = Ok b
 
-turn-clash : {C : Type 0} → turned true ≡ turned false → C
+pub turn-clash : {C : Type 0} → turned true ≡ turned false → C
 turn-clash is = clash (ap (value_or true) is)
 
 pub repeats-only : {turn : Way Bool} → Single Any turn → (old : World) (one other : Result ℕ Halt)
