@@ -16,3 +16,4 @@ pub mod Attempts
 pub mod Derived
 pub mod Only
 pub mod OnlyHelps
+pub mod OnlyLines

@@ -219,7 +219,7 @@ log-then-by law queues order c request rec step is old end new holds same (ends 
 log-then-by law queues order c request rec step is old end new holds same (follows way gives) =
     (tt, (log-by law queues order c request rec step is old (Ok tt) _ holds same way).1)
 
-refusal-given : (w : World) (refusal : Option NameRefusal) → IsSaid (refusal_answer w refusal)
+pub refusal-given : (w : World) (refusal : Option NameRefusal) → IsSaid (refusal_answer w refusal)
 refusal-given w None = tt
 refusal-given w (Some (refusals.Words error)) = tt
 refusal-given w (Some (refusals.Tree posix.TooManyFiles)) = no-room (is_none (free_record w))

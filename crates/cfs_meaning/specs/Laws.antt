@@ -129,3 +129,11 @@ ReadsAreRight =
     Step line old out new →
     out ≡ record { number = number; answer = answers.Got ino place bytes } ∷ [] →
     OfEachCore (λ k core. k ≡ ino → IsReadAt place bytes core) new.files
+
+-- ---- one run
+
+-- A script has one list of answers, and leaves one world.
+abbrev pub AnswersAreOnly : Type 0
+AnswersAreOnly =
+    (old one other : World) (lines : List Line) (outs others : List OutLine) →
+    Run old lines outs one → Run old lines others other → (outs ≡ others) × (one ≡ other)

@@ -1,6 +1,6 @@
 //! What holds of every run, as contracts of functions that do nothing.
 
-ghost use Rattle.cfs_meaning.specs.Laws.{CalmRunsAnswer, CoresStayReached, FilesAreGood, LogsFollowLines, NamesStayLegal, ReadsAreRight};
+ghost use Rattle.cfs_meaning.specs.Laws.{AnswersAreOnly, CalmRunsAnswer, CoresStayReached, FilesAreGood, LogsFollowLines, NamesStayLegal, ReadsAreRight};
 
 /// While a store is mounted, each line makes of the core of each file one that the laws of cores
 /// hold of: so each file's log is legal, and a read is answered by the file before it.
@@ -32,4 +32,9 @@ pub fn calm_runs_answer()
 /// A line that reads prints the bytes of the file after the entries before its place.
 pub fn reads_are_right()
     ensures { ReadsAreRight }
+{}
+
+/// A script has one list of answers, and leaves one world.
+pub fn answers_are_only()
+    ensures { AnswersAreOnly }
 {}
