@@ -1,14 +1,13 @@
 -- What a line keeps: a law that holds of the world before each part of a line holds behind it, and
 -- lets the part end only as it may.
 use Rattle.std.proofs.Common.{◌≡◌, ℕ, Bool, true, false, List, [], ◌∷◌, length, Option, Some, None, refl}
-use Rattle.std.specs.Prelude.{Result, Ok, Err}
 use Rattle.cfs_core.specs.declared.inode_core.Core.{Core}
 use Rattle.cfs_print.specs.declared.printed.Printed.{Printed}
 use Rattle.cfs_print.specs.declared.printed.Printed.TheVariants as answers
-use Rattle.cfs_meaning.specs.Drive.{Op, attempt}
+use Rattle.cfs_meaning.specs.Drive.{Op}
 use Rattle.cfs_meaning.specs.World.{World, empty_core}
 use Rattle.cfs_meaning.specs.Laws.{OfEachCore}
-use Rattle.cfs_meaning.specs.Ways.{Changes, changes, Ends, Fault, Gives, Halt, Mends, Now, Repeats, Says, Shrugs, Then, Tries, Waits, Way, breaks, breaks_later, choose, counts, each, end_with, ends, follows, give, gives, halts, known, mends, never, now, only_if, refuse_if, rests, say, says, shrugs, steps, tried, unless_fault, waits, well, when, whole, ◌>>=◌}
+use Rattle.cfs_meaning.specs.Ways.{Changes, Fault, Halt, Mends, Now, Repeats, Says, Shrugs, Tries, Waits, Way, choose, each, end_with, give, known, never, only_if, refuse_if, say, steps, unless_fault, when, ◌>>=◌}
 
 -- A change that is no operation of a device, no event of a core and no request on names: a core
 -- stays, or its file begins empty.

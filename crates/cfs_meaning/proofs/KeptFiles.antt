@@ -1,6 +1,6 @@
 -- The lines of callers on files keep each law.
 use Rattle.std.proofs.Common.{ℕ, Bool, true, false, Option, Some, None, List}
-use Rattle.std.specs.Prelude.{Result, Ok, Err, if◌then◌else◌}
+use Rattle.std.specs.Prelude.{if◌then◌else◌}
 use Rattle.cfs_file.specs.declared.request.Request.{Request}
 use Rattle.cfs_print.specs.declared.printed.Printed.{Printed}
 use Rattle.cfs_print.specs.declared.printed.Printed.TheVariants.{Got, Placed}
@@ -10,9 +10,9 @@ use Rattle.cfs_words.specs.declared.seek.Seek.{Seek}
 use Rattle.cfs_meaning.specs.NameSteps.{closing}
 use Rattle.cfs_meaning.specs.World.{Descriptor, World, core_in}
 use Rattle.cfs_meaning.specs.Inode.{Absent, Behind, Ready, Verdict, serve_verdict}
-use Rattle.cfs_meaning.specs.Ways.{Halt, Waits, Way, known}
-use Rattle.cfs_meaning.specs.Files.{Defers, Helps, move_by, admit_write, append, clear_way, close, collect, collected, defers, fails, fails_first, faults, find_room, ftruncate, help_lowest, help_some, helps_first, in_the_way, is_behind, is_out_itself, list_queue, lseek, make_room, opened, opened_to_read, opened_to_write, post, pwrite, read_or_sync, room_or_full, say_served, serve_helped, serve_posted, serves, skips, stage_and_admit, works, works_on, write}
-use Rattle.cfs_meaning.proofs.Keeping.{Any, IsQuiet, IsSaid, Keeps, keep-changes, keep-choose, keep-each, keep-end, keep-give, keep-look, keep-mends, keep-refuse, keep-repeats, keep-say, keep-steps, keep-then, keep-when}
+use Rattle.cfs_meaning.specs.Ways.{Way, known}
+use Rattle.cfs_meaning.specs.Files.{Helps, move_by, admit_write, append, clear_way, close, collect, collected, find_room, ftruncate, help_lowest, help_some, in_the_way, list_queue, lseek, make_room, opened, opened_to_read, opened_to_write, post, pwrite, read_or_sync, room_or_full, say_served, serve_helped, serve_posted, stage_and_admit, write}
+use Rattle.cfs_meaning.proofs.Keeping.{Any, IsSaid, Keeps, keep-changes, keep-choose, keep-each, keep-end, keep-give, keep-look, keep-mends, keep-refuse, keep-repeats, keep-say, keep-steps, keep-then, keep-when}
 use Rattle.cfs_meaning.proofs.KeptInode.{kept-admit, kept-drop, kept-job, kept-read, kept-serve, kept-settle, kept-skip}
 use Rattle.cfs_meaning.proofs.KeptNames.{kept-ask-purge}
 use Rattle.cfs_meaning.proofs.Kept.{Law}

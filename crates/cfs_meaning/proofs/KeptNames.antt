@@ -1,19 +1,11 @@
 -- What is done to the tree keeps each law.
-use Rattle.std.proofs.Common.{◌≡◌, ℕ, Bool, true, false, Option, Some, None, length, refl, ap, ◌∙◌}
-use Rattle.std.specs.Prelude.{Result, Ok, Err, if◌then◌else◌, is_none}
+use Rattle.std.proofs.Common.{ℕ, Bool}
 use Rattle.cfs_dir.specs.declared.change.Change.{Change}
 use Rattle.cfs_requests.specs.Steps.{NameAnswer, NameRequest}
 use Rattle.cfs_requests.specs.Steps as names
-use Rattle.cfs_print.specs.declared.printed.Printed.TheVariants.{NoNumber, NoRecord}
-use Rattle.cfs_dir.specs.declared.posix.Posix.TheVariants as posix
-use Rattle.cfs_requests.specs.declared.name_refusal.NameRefusal.{NameRefusal}
-use Rattle.cfs_requests.specs.declared.name_refusal.NameRefusal.TheVariants as refusals
 use Rattle.cfs_meaning.specs.Laws.{IsGiven}
-use Rattle.cfs_meaning.specs.NameSteps.{Order, changes_of, refusal_of, step_of}
-use Rattle.cfs_meaning.specs.World.{World}
-use Rattle.cfs_meaning.specs.Names.{ask, ask_and_purge, checkpoint, dying, free_record, log_step, open_with, purge_all, refusal_answer, say_made, say_named, step_in, store_change}
-use Rattle.cfs_meaning.specs.Ways.{Changes, changes, Halt, Then, Way, each, ends, follows, give, gives, known, now, ◌>>=◌, ◌>>◌}
-use Rattle.cfs_meaning.proofs.Keeping.{Any, Base, IsSaid, Keeps, keep-changes, keep-each, keep-give, keep-known, keep-look, keep-never, keep-only, keep-shrugs, keep-steps, keep-then, keep-tries, keep-unless, keep-when}
+use Rattle.cfs_meaning.specs.Names.{ask, ask_and_purge, checkpoint, dying, open_with, purge_all, say_made, say_named, store_change}
+use Rattle.cfs_meaning.proofs.Keeping.{Any, Base, Keeps, keep-changes, keep-each, keep-give, keep-look, keep-never, keep-only, keep-shrugs, keep-steps, keep-then, keep-tries, keep-unless, keep-when}
 use Rattle.cfs_meaning.proofs.KeptInode.{kept-purge}
 use Rattle.cfs_meaning.proofs.Kept.{Law}
 use Rattle.cfs_meaning.proofs.Quiet.{quiet-descriptors, quiet-doubt, quiet-recorded, quiet-selected, quiet-settled}

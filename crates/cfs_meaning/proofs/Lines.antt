@@ -10,7 +10,7 @@ use Rattle.cfs_meaning.specs.World.{Down, Failed, Phase, Up, World, with_drive}
 use Rattle.cfs_meaning.specs.Mounting.{mount_steps}
 use Rattle.cfs_meaning.specs.Laws.{IsGiven}
 use Rattle.cfs_meaning.specs.Play.{crash_in, does, joined, mount_line, plan, planned, stopped}
-use Rattle.cfs_meaning.specs.Ways.{Changes, changes, Fault, Halt, Says, ends, follows, gives, halts, now}
+use Rattle.cfs_meaning.specs.Ways.{Changes, Fault, Halt, Says, ends, follows, gives, halts, now}
 use Rattle.cfs_meaning.proofs.Keeping.{Any, Base, Keeps, keep-each, keep-give, keep-known, keep-look, keep-steps, keep-then, keep-when}
 use Rattle.cfs_meaning.proofs.KeptLines.{IsGivenIfAny, is_plain, kept-plain}
 use Rattle.cfs_meaning.proofs.Kept.{Law}

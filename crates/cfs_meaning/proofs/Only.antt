@@ -1,10 +1,9 @@
 -- Each part of a line has one end, and leaves one world.
-use Rattle.std.proofs.Common.{◌≡◌, ◌∙◌, ℕ, suc, Bool, true, false, Option, Some, None, List, [], ◌∷◌, refl, sym, ap, subst}
+use Rattle.std.proofs.Common.{◌≡◌, ◌∙◌, ℕ, suc, Bool, true, false, List, refl, sym, ap, subst}
 use Rattle.std.specs.Prelude.{Result, Ok, Err}
-use Rattle.cfs_print.specs.declared.printed.Printed.{Printed}
 use Rattle.cfs_meaning.specs.Drive.{Op}
 use Rattle.cfs_meaning.specs.World.{World}
-use Rattle.cfs_meaning.specs.Ways.{Changes, changes, Ends, Fault, Gives, Halt, Mends, Now, Repeats, Says, Shrugs, Then, Tries, Waits, Way, breaks, breaks_later, counts, end_with, ends, follows, give, gives, halts, mends, never, now, rests, says, shrugs, tried, waits, well, whole, ◌>>=◌}
+use Rattle.cfs_meaning.specs.Ways.{Changes, changes, Ends, Fault, Gives, Halt, Mends, Now, Repeats, Says, Shrugs, Then, Tries, Waits, Way, breaks, breaks_later, counts, ends, follows, gives, halts, mends, now, rests, says, shrugs, tried, waits, well, whole}
 use Rattle.cfs_meaning.proofs.Keeping.{Any, Base}
 
 -- one end and one world, and each value has R
@@ -57,8 +56,8 @@ then-only {next = next} first more old one other new also (follows {mid = mid} {
     let same = first.only old (Ok a) (Ok b) mid mid' way way' in
     let value : a ≡ b = ap (value_or a) same.0 in
     let there : next a mid other also =
-        subst (λ v. next v mid other also) (sym value)
-        (subst (λ w. next b w other also) (sym same.1) rest') in
+    subst (λ v. next v mid other also) (sym value)
+    (subst (λ w. next b w other also) (sym same.1) rest') in
     (more a (first.value old (Ok a) mid way a refl)).only mid one other new also rest there
 
 pub then-value : {A B : Type 0} {R : A → Type 0} {S : B → Type 0} {first : Way A} {next : A → Way B} →
@@ -140,13 +139,13 @@ repeats-only {turn} t old one other new also (counts {mid = mid} {n = n} way mor
     (counts {mid = mid'} {n = m} way' more') =
     let same = (t.only old (Ok true) (Ok true) mid mid' way way').1 in
     let there : Repeats turn mid (Ok m) also =
-        subst (λ w. Repeats turn w (Ok m) also) (sym same) more' in
+    subst (λ w. Repeats turn w (Ok m) also) (sym same) more' in
     let rest = repeats-only t mid (Ok n) (Ok m) new also more there in (ap one_more rest.0, rest.1)
 repeats-only {turn} t old one other new also (counts {mid = mid} {n = n} way more)
     (breaks_later {mid = mid'} {halt = k} way' more') =
     let same = (t.only old (Ok true) (Ok true) mid mid' way way').1 in
     let there : Repeats turn mid (Err k) also =
-        subst (λ w. Repeats turn w (Err k) also) (sym same) more' in
+    subst (λ w. Repeats turn w (Err k) also) (sym same) more' in
     ok-err n k (repeats-only t mid (Ok n) (Err k) new also more there).0
 repeats-only t old one other new also (breaks_later {mid = mid} way more) (breaks {halt = k} way') =
     ok-err true k (t.only old (Ok true) (Err k) mid also way way').0
@@ -156,13 +155,13 @@ repeats-only {turn} t old one other new also (breaks_later {mid = mid} {halt = h
     (counts {mid = mid'} {n = m} way' more') =
     let same = (t.only old (Ok true) (Ok true) mid mid' way way').1 in
     let there : Repeats turn mid (Ok m) also =
-        subst (λ w. Repeats turn w (Ok m) also) (sym same) more' in
+    subst (λ w. Repeats turn w (Ok m) also) (sym same) more' in
     err-ok h m (repeats-only t mid (Err h) (Ok m) new also more there).0
 repeats-only {turn} t old one other new also (breaks_later {mid = mid} {halt = h} way more)
     (breaks_later {mid = mid'} {halt = k} way' more') =
     let same = (t.only old (Ok true) (Ok true) mid mid' way way').1 in
     let there : Repeats turn mid (Err k) also =
-        subst (λ w. Repeats turn w (Err k) also) (sym same) more' in
+    subst (λ w. Repeats turn w (Err k) also) (sym same) more' in
     repeats-only t mid (Err h) (Err k) new also more there
 
 -- ---- after a fault
@@ -210,8 +209,8 @@ mends-only {mend = mend} w m old one other new also d e =
     let y = mends-so old other also e in
     let same = w.only old x.first y.first x.mid y.mid x.goes y.goes in
     let there : Mended mend x.first x.mid other also =
-        subst (λ f. Mended mend f x.mid other also) (sym same.0)
-        (subst (λ u. Mended mend y.first u other also) (sym same.1) y.mended) in
+    subst (λ f. Mended mend f x.mid other also) (sym same.0)
+    (subst (λ u. Mended mend y.first u other also) (sym same.1) y.mended) in
     mended-only m x.first x.mid one other new also x.mended there
 
 mended-value : {A : Type 0} {R : A → Type 0} (mend : Way (Unit {0})) (first : Result A Halt)

@@ -1,12 +1,12 @@
 -- Helping an entry has one end, and leaves one world.
-use Rattle.std.proofs.Common.{◌≡◌, ◌⊎◌, inl, inr, ◌∙◌, ℕ, Bool, true, false, refl, sym, ap, subst, if◌then◌else◌}
+use Rattle.std.proofs.Common.{◌≡◌, ◌∙◌, ℕ, Bool, true, false, refl, sym, ap, subst, if◌then◌else◌}
 use Rattle.std.specs.Prelude.{Result, Ok, Err}
 use Rattle.cfs_core.specs.declared.inode_core.Core.{Core}
 use Rattle.cfs_core.specs.declared.state.State.{State}
 use Rattle.cfs_core.specs.declared.state.State.TheVariants.{Closed, Noop, Out, Unserved, Waiting}
 use Rattle.cfs_core.specs.Words.{is_noop, is_out, is_waiting, track}
 use Rattle.cfs_meaning.specs.World.{World, core_in}
-use Rattle.cfs_meaning.specs.Inode.{Absent, Behind, Ready, Verdict, first_before, first_of, holder, run_job, skip, verdict}
+use Rattle.cfs_meaning.specs.Inode.{Absent, Behind, Ready, Verdict, run_job, skip, verdict}
 use Rattle.cfs_meaning.specs.Files.{Helps, fails, fails_first, helps_first, is_behind, is_out_itself, is_stuck, skips, works, works_on}
 use Rattle.cfs_meaning.specs.Ways.{Halt, Waits}
 use Rattle.cfs_meaning.proofs.Keeping.{Any}
@@ -92,7 +92,7 @@ branch-verdict : (core : Core) (place : ℕ) (v : Verdict) → verdict core plac
     is_absent v ≡ false → branch core place ≡ by_verdict core v
 branch-verdict core place v is there =
     let states = waiting-noop (track core.tracks place).state
-        (verdict-waits core place (ap is_absent is ∙ there)) in
+    (verdict-waits core place (ap is_absent is ∙ there)) in
     branch-not core place false false (by_verdict core v) states.0 states.1
     (ap (by_verdict core) is)
 
@@ -223,52 +223,52 @@ helps-only {ino} s j {place} old one other new also
     elim (first-end old other also (at-branch (first q) old other also
     (branch-behind (core_in old ino) place q false (first q) is free refl) e)) [
       | helped mid' front' rest' ↦
-        let same = helps-only s j old (Ok tt) (Ok tt) mid mid' front front' in
-        helps-only s j mid one other new also rest
-        (subst (λ w. Helps ino place w other also) (sym same.1) rest')
+          let same = helps-only s j old (Ok tt) (Ok tt) mid mid' front front' in
+          helps-only s j mid one other new also rest
+          (subst (λ w. Helps ino place w other also) (sym same.1) rest')
       | failed halt is' front' ↦
-        ok-err tt halt (helps-only s j old (Ok tt) (Err halt) mid also front front').0
+          ok-err tt halt (helps-only s j old (Ok tt) (Err halt) mid also front front').0
     ]
 helps-only {ino} s j {place} old one other new also
     (fails_first {q = q} {halt = halt} is free front) e =
     elim (first-end old other also (at-branch (first q) old other also
     (branch-behind (core_in old ino) place q false (first q) is free refl) e)) [
       | helped mid' front' rest' ↦
-        err-ok halt tt (helps-only s j old (Err halt) (Ok tt) new mid' front front').0
+          err-ok halt tt (helps-only s j old (Err halt) (Ok tt) new mid' front front').0
       | failed halt' is' front' ↦
-        let same = helps-only s j old (Err halt) (Err halt') new also front front' in
-        (same.0 ∙ sym is', same.1)
+          let same = helps-only s j old (Err halt) (Err halt') new also front front' in
+          (same.0 ∙ sym is', same.1)
     ]
 helps-only {ino} s j {place} old one other new also (works is job) e =
     elim (work-end old other also (at-branch working old other also
     (branch-ready (core_in old ino) place is) e)) [
       | done_so is' job' ↦
-        (sym is', ((j place).only old (Ok false) (Ok false) new also job job').1)
+          (sym is', ((j place).only old (Ok false) (Ok false) new also job job').1)
       | on_so mid' job' rest' ↦
-        turn-clash (sym ((j place).only old (Ok false) (Ok true) new mid' job job').0)
+          turn-clash (sym ((j place).only old (Ok false) (Ok true) new mid' job job').0)
       | broken halt' is' job' ↦
-        ok-err false halt' ((j place).only old (Ok false) (Err halt') new also job job').0
+          ok-err false halt' ((j place).only old (Ok false) (Err halt') new also job job').0
     ]
 helps-only {ino} s j {place} old one other new also (works_on {mid = mid} is job rest) e =
     elim (work-end old other also (at-branch working old other also
     (branch-ready (core_in old ino) place is) e)) [
       | done_so is' job' ↦
-        turn-clash ((j place).only old (Ok true) (Ok false) mid also job job').0
+          turn-clash ((j place).only old (Ok true) (Ok false) mid also job job').0
       | on_so mid' job' rest' ↦
-        let same = (j place).only old (Ok true) (Ok true) mid mid' job job' in
-        helps-only s j mid one other new also rest
-        (subst (λ w. Helps ino place w other also) (sym same.1) rest')
+          let same = (j place).only old (Ok true) (Ok true) mid mid' job job' in
+          helps-only s j mid one other new also rest
+          (subst (λ w. Helps ino place w other also) (sym same.1) rest')
       | broken halt' is' job' ↦
-        ok-err true halt' ((j place).only old (Ok true) (Err halt') mid also job job').0
+          ok-err true halt' ((j place).only old (Ok true) (Err halt') mid also job job').0
     ]
 helps-only {ino} s j {place} old one other new also (fails {halt = halt} is job) e =
     elim (work-end old other also (at-branch working old other also
     (branch-ready (core_in old ino) place is) e)) [
       | done_so is' job' ↦
-        err-ok halt false ((j place).only old (Err halt) (Ok false) new also job job').0
+          err-ok halt false ((j place).only old (Err halt) (Ok false) new also job job').0
       | on_so mid' job' rest' ↦
-        err-ok halt true ((j place).only old (Err halt) (Ok true) new mid' job job').0
+          err-ok halt true ((j place).only old (Err halt) (Ok true) new mid' job job').0
       | broken halt' is' job' ↦
-        let same = (j place).only old (Err halt) (Err halt') new also job job' in
-        (ap ended same.0 ∙ sym is', same.1)
+          let same = (j place).only old (Err halt) (Err halt') new also job job' in
+          (ap ended same.0 ∙ sym is', same.1)
     ]

@@ -1,21 +1,19 @@
 -- A script has one list of answers.
-use Rattle.std.proofs.Common.{◌≡◌, ◌∙◌, ℕ, Bool, true, false, Option, Some, None, List, [], ◌∷◌, ◌++◌, refl, sym, ap, subst}
+use Rattle.std.proofs.Common.{◌≡◌, ◌∙◌, ℕ, Bool, true, false, List, [], ◌∷◌, ◌++◌, refl, sym, ap, subst}
 use Rattle.std.specs.Prelude.{Result, Ok, Err}
 use Rattle.cfs_core.specs.declared.event.Event.{Event}
-use Rattle.cfs_print.specs.declared.printed.Printed.{Printed}
 use Rattle.cfs_print.specs.declared.printed.Printed.TheVariants.{PendingRead}
 use Rattle.cfs_print.specs.declared.out_line.OutLine.{OutLine}
 use Rattle.cfs_requests.specs.Steps.{NameRequest}
 use Rattle.cfs_script.specs.declared.form.Form.{Form}
-use Rattle.cfs_script.specs.declared.form.Form.TheVariants as forms
 use Rattle.cfs_script.specs.declared.line.Line.{Line}
-use Rattle.cfs_meaning.specs.World.{Down, Failed, Phase, Up, World, core_in}
-use Rattle.cfs_meaning.specs.Names.{ask, free_record, refusal_answer, step_in}
+use Rattle.cfs_meaning.specs.World.{Down, Failed, Phase, Up, World}
+use Rattle.cfs_meaning.specs.Names.{ask, free_record}
 use Rattle.cfs_meaning.specs.NameSteps.{refusal_of}
-use Rattle.cfs_meaning.specs.Inode.{Comes, comes, event}
+use Rattle.cfs_meaning.specs.Inode.{Comes, comes}
 use Rattle.cfs_meaning.specs.Files.{Defers, defers, faults, serves}
 use Rattle.cfs_meaning.specs.Laws.{AnswersAreOnly, IsGiven}
-use Rattle.cfs_meaning.specs.Play.{Run, Step, does, goes_on, mount, mount_failed, mount_line, mounted, printed, run_ends, steps_so}
+use Rattle.cfs_meaning.specs.Play.{Run, Step, does, goes_on, mount, mount_line, printed, run_ends, steps_so}
 use Rattle.cfs_meaning.specs.Ways.{Changes, Fault, Halt, Says, Waits, Way}
 use Rattle.cfs_meaning.proofs.Keeping.{Any, Keeps, keep-each, keep-give, keep-known, keep-look, keep-say, keep-then}
 use Rattle.cfs_meaning.proofs.Kept.{Law}
@@ -136,8 +134,7 @@ single-line line form = by-kind (is_mount form) refl
 step-only : {old one other : World} {line : Line} {out also : List OutLine} →
     Step line old out one → Step line old also other → (out ≡ also) × (one ≡ other)
 step-only {old} {one} {other} {line} (steps_so end way) (steps_so end' way') =
-    let same = (single-line line.number line.form).means.only old end end' one other way way' in
-    (
+    let same = (single-line line.number line.form).means.only old end end' one other way way' in (
       ap (λ w. printed line.number w end) same.1 ∙ ap (printed line.number other) same.0,
       same.1,
     )
@@ -149,6 +146,6 @@ answers-only old one other (line ∷ lines) outs others
     (goes_on {mid = mid'} {here = here'} {later = later'} step' rest') =
     let first = step-only step step' in
     let there : Run mid lines later' other =
-        subst (λ w. Run w lines later' other) (sym first.1) rest' in
+    subst (λ w. Run w lines later' other) (sym first.1) rest' in
     let more = answers-only mid one other lines later later' rest there in
     (ap (λ o. o ++ later) first.0 ∙ ap (λ o. here' ++ o) more.0, more.1)

@@ -1,6 +1,6 @@
 -- Laws of worlds: what holds of the world before a part of a line holds behind it, and the part ends
 -- only as it may.
-use Rattle.std.proofs.Common.{◌≡◌, ◌∙◌, ℕ, suc, Bool, true, false, Option, Some, None, List, [], ◌∷◌, length, refl, ap}
+use Rattle.std.proofs.Common.{◌≡◌, ◌∙◌, ℕ, Bool, true, false, Option, Some, None, List, length, refl, ap}
 use Rattle.std.specs.Prelude.{Result, Ok, Err, is_none, if◌then◌else◌}
 use Rattle.cfs_core.specs.declared.event.Event.{Event}
 use Rattle.cfs_core.specs.May.{may}
@@ -15,10 +15,10 @@ use Rattle.cfs_meaning.specs.Drive.{Op, attempt}
 use Rattle.cfs_meaning.specs.NameSteps.{Order, changes_of, refusal_of, step_of}
 use Rattle.cfs_meaning.specs.World.{World, core_in, with_core}
 use Rattle.cfs_meaning.specs.Names.{ask, free_record, log_step, refusal_answer, step_in, store_change}
-use Rattle.cfs_meaning.specs.Inode.{Comes, comes, event, run_job, skip}
+use Rattle.cfs_meaning.specs.Inode.{Comes, comes, run_job, skip}
 use Rattle.cfs_meaning.specs.Files.{Defers, Helps, defers, fails, fails_first, faults, helps_first, is_behind, is_out_itself, serves, skips, works, works_on}
 use Rattle.cfs_meaning.specs.Ways.{Changes, changes, Ends, Fault, Gives, Halt, Mends, Now, Repeats, Says, Shrugs, Then, Tries, Waits, Way, breaks, breaks_later, counts, each, ends, follows, give, gives, halts, known, mends, now, rests, says, shrugs, tried, waits, well, whole, ◌>>=◌, ◌>>◌}
-use Rattle.cfs_meaning.proofs.Keeping.{Any, Base, IsQuiet, IsSaid, Keeps, keep-each, keep-known}
+use Rattle.cfs_meaning.proofs.Keeping.{Any, Base, IsQuiet, IsSaid, keep-each, keep-known}
 use Rattle.cfs_meaning.proofs.Kept.{IsOfLine, Law}
 use Rattle.cfs_meaning.proofs.KeptNames.{kept-store}
 
