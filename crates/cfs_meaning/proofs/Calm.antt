@@ -96,9 +96,11 @@ kept-mount line =
     keep-look (λ w.
     keep-then (record { means = moves (calm_law line).fact (λ here holds. holds) }) (λ u a.
     keep-then (kept-home (law_of (calm_law line)).base) (λ u a.
-    keep-then (record { means = moves (calm_law line).fact (λ here holds. holds) }) (λ u a. keep-give tt))))
+    keep-then (record { means = moves (calm_law line).fact (λ here holds. holds) }) (λ u a.
+    keep-give tt))))
 
-kept-phase : (line : ℕ) (phase : Phase) → Keeps (law_of (calm_law line)).base IsGiven (mount_line phase)
+kept-phase : (line : ℕ) (phase : Phase) →
+    Keeps (law_of (calm_law line)).base IsGiven (mount_line phase)
 kept-phase line Up = keep-say tt
 kept-phase line Down = kept-mount line
 kept-phase line Failed = keep-say tt
@@ -108,7 +110,8 @@ kept-phase line Failed = keep-say tt
 kept-rest : (line : ℕ) (form : Form) → is_calm form ≡ true → is_plain form ≡ false →
     Keeps (law_of (calm_law line)).base IsGivenIfAny (does line form)
 kept-rest line (forms.Caller c uid gid) calm rough =
-    keep-then (record { means = moves (calm_law line).fact (λ here holds. holds) }) (λ u a. keep-give tt)
+    keep-then (record { means = moves (calm_law line).fact (λ here holds. holds) }) (λ u a.
+    keep-give tt)
 kept-rest line (forms.Crash k) calm rough =
     keep-then (keep-then (record {
       means = moves (calm_law line).fact (λ here holds.

@@ -1,6 +1,5 @@
 -- Each line of a mounted store keeps each law, but for those that set the power or a plan, the
--- crash
--- and the caller's.
+-- crash and the caller's.
 use Rattle.std.proofs.Common.{◌≡◌, ℕ, Bool, true, false, Option, Some, None, List, [], ◌∷◌, ◌+◌}
 use Rattle.std.specs.Prelude.{if◌then◌else◌}
 use Rattle.cfs_cred.specs.declared.credential.Credential.{Credential}

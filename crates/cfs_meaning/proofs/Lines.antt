@@ -102,7 +102,8 @@ pub only-mount : (form : Form) → is_mount form ≡ true → form ≡ forms.Mou
 only-mount forms.Mount is = refl
 only-mount form is = absurd (cc)
 
-says-kept : (law : WorldLaw) (end : Result (Option Printed) Halt) → end ≡ Err (Says answers.Mounted) →
+says-kept : (law : WorldLaw) (end : Result (Option Printed) Halt) →
+    end ≡ Err (Says answers.Mounted) →
     EndsAs law.fact IsGivenIfAny end
 says-kept law (Ok answer) is = absurd (cc)
 says-kept law (Err halt) is =

@@ -39,7 +39,8 @@ value_or a (Err halt) = a
 
 -- ---- one after another
 
-pub then-only : {A B : Type 0} {R : A → Type 0} {S : B → Type 0} {first : Way A} {next : A → Way B} →
+pub then-only : {A B : Type 0} {R : A → Type 0} {S : B → Type 0} {first : Way A}
+    {next : A → Way B} →
     Single R first → ((a : A) → R a → Single S (next a)) →
     (old : World) (one other : Result B Halt) (new also : World) →
     Then first next old one new → Then first next old other also → (one ≡ other) × (new ≡ also)
@@ -60,7 +61,8 @@ then-only {next = next} first more old one other new also (follows {mid = mid} {
     (subst (λ w. next b w other also) (sym same.1) rest') in
     (more a (first.value old (Ok a) mid way a refl)).only mid one other new also rest there
 
-pub then-value : {A B : Type 0} {R : A → Type 0} {S : B → Type 0} {first : Way A} {next : A → Way B} →
+pub then-value : {A B : Type 0} {R : A → Type 0} {S : B → Type 0} {first : Way A}
+    {next : A → Way B} →
     Single R first → ((a : A) → R a → Single S (next a)) →
     (old : World) (end : Result B Halt) (new : World) → Then first next old end new → (b : B) →
     end ≡ Ok b → S b
@@ -201,7 +203,8 @@ mended-only m (Err Fault) mid one other new also x y =
 mended-only m (Err (Waits place)) mid one other new also x y = (x.0 ∙ sym y.0, x.1 ∙ sym y.1)
 mended-only m (Err (Says answer)) mid one other new also x y = (x.0 ∙ sym y.0, x.1 ∙ sym y.1)
 
-pub mends-only : {A : Type 0} {R : A → Type 0} {way : Way A} {mend : Way (Unit {0})} → Single R way →
+pub mends-only : {A : Type 0} {R : A → Type 0} {way : Way A} {mend : Way (Unit {0})} →
+    Single R way →
     Single Any mend → (old : World) (one other : Result A Halt) (new also : World) →
     Mends way mend old one new → Mends way mend old other also → (one ≡ other) × (new ≡ also)
 mends-only {mend = mend} w m old one other new also d e =
@@ -218,10 +221,13 @@ mended-value : {A : Type 0} {R : A → Type 0} (mend : Way (Unit {0})) (first : 
     Mended mend first mid end new → (b : A) → end ≡ Ok b → R b
 mended-value mend (Ok a) mid end new value x b is = value b (sym x.0 ∙ is)
 mended-value mend (Err Fault) mid end new value x b is = err-ok Fault b (sym x.0 ∙ is)
-mended-value mend (Err (Waits place)) mid end new value x b is = err-ok (Waits place) b (sym x.0 ∙ is)
-mended-value mend (Err (Says answer)) mid end new value x b is = err-ok (Says answer) b (sym x.0 ∙ is)
+mended-value mend (Err (Waits place)) mid end new value x b is =
+    err-ok (Waits place) b (sym x.0 ∙ is)
+mended-value mend (Err (Says answer)) mid end new value x b is =
+    err-ok (Says answer) b (sym x.0 ∙ is)
 
-pub mends-value : {A : Type 0} {R : A → Type 0} {way : Way A} {mend : Way (Unit {0})} → Single R way →
+pub mends-value : {A : Type 0} {R : A → Type 0} {way : Way A} {mend : Way (Unit {0})} →
+    Single R way →
     (old : World) (end : Result A Halt) (new : World) → Mends way mend old end new → (b : A) →
     end ≡ Ok b → R b
 mends-value {mend = mend} w old end new d b is =

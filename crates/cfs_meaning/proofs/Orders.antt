@@ -52,14 +52,17 @@ kept-mount line =
     keep-look (λ w.
     keep-then (record { means = moves (order_law line).fact (λ here holds. holds) }) (λ u a.
     keep-then (kept-home (law_of (order_law line)).base) (λ u a.
-    keep-then (record { means = moves (order_law line).fact (λ here holds. refl) }) (λ u a. keep-give tt))))
+    keep-then (record { means = moves (order_law line).fact (λ here holds. refl) }) (λ u a.
+    keep-give tt))))
 
-kept-phase : (line : ℕ) (phase : Phase) → Keeps (law_of (order_law line)).base IsGiven (mount_line phase)
+kept-phase : (line : ℕ) (phase : Phase) →
+    Keeps (law_of (order_law line)).base IsGiven (mount_line phase)
 kept-phase line Up = keep-say tt
 kept-phase line Down = kept-mount line
 kept-phase line Failed = keep-say tt
 
-kept-line : (line : ℕ) (form : Form) → Keeps (law_of (order_law line)).base IsGivenIfAny (does line form)
+kept-line : (line : ℕ) (form : Form) →
+    Keeps (law_of (order_law line)).base IsGivenIfAny (does line form)
 kept-line line form = by-kind (is_mount form) refl
   where
     by-kind : (mounts : Bool) → is_mount form ≡ mounts →

@@ -1,5 +1,5 @@
--- Laws of worlds: what holds of the world before a part of a line holds behind it, and the part ends
--- only as it may.
+-- Laws of worlds: what holds of the world before a part of a line holds behind it, and the part
+-- ends only as it may.
 use Rattle.std.proofs.Common.{◌≡◌, ◌∙◌, ℕ, Bool, true, false, Option, Some, None, List, length, refl, ap}
 use Rattle.std.specs.Prelude.{Result, Ok, Err, is_none, if◌then◌else◌}
 use Rattle.cfs_core.specs.declared.event.Event.{Event}
@@ -64,7 +64,8 @@ pub ends-by : (fact : Fact) {A : Type 0} (R : A → Type 0) {halt : Halt} → fa
     EndsAs fact R end × fact.Holds new
 ends-by fact R may old end new holds halts = (may, holds)
 
-pub now-by : (fact : Fact) → (old : World) (end : Result World Halt) (new : World) → fact.Holds old →
+pub now-by : (fact : Fact) (old : World) (end : Result World Halt) (new : World) →
+    fact.Holds old →
     Now old end new → EndsAs fact Any end × fact.Holds new
 now-by fact old end new holds now = (tt, holds)
 
@@ -193,8 +194,8 @@ lead-then : {one other : Fact} {A B : Type 0} {R : A → Type 0} {S : B → Type
 lead-then first more = record { by = lead-by first more }
 
 -- the step is logged where its tree and grants still stand
-log-by : (law : WorldLaw) (queues : ℕ) (order : Order) (c : ℕ) (request : NameRequest) (rec : Option ℕ)
-    (step : NameAnswer × Order) → step_of queues order c request rec ≡ Some step →
+log-by : (law : WorldLaw) (queues : ℕ) (order : Order) (c : ℕ) (request : NameRequest)
+    (rec : Option ℕ) (step : NameAnswer × Order) → step_of queues order c request rec ≡ Some step →
     (old : World) (end : Result (Unit {0}) Halt) (new : World) → law.fact.Holds old →
     (same_names queues order).Holds old →
     Changes (log_step c law.line request rec step) old end new →
@@ -254,7 +255,8 @@ ask-by law c request old end new holds (follows now rest) =
 -- ---- helping, and reads that wait
 
 pub helps-by : (fact : Fact) {ino : ℕ} → ((place : ℕ) → Holding fact Any (skip ino place)) →
-    ((place : ℕ) → Holding fact Any (run_job ino place)) → {place : ℕ} (old : World) (end : Result (Unit {0}) Halt) (new : World) →
+    ((place : ℕ) → Holding fact Any (run_job ino place)) → {place : ℕ} (old : World)
+    (end : Result (Unit {0}) Halt) (new : World) →
     fact.Holds old → Helps ino place old end new → EndsAs fact Any end × fact.Holds new
 helps-by fact skipped done {place} old end new holds (skips is way) =
     (skipped place).by _ _ _ holds way
@@ -262,7 +264,8 @@ helps-by fact skipped done {place} old end new holds (is_out_itself is) = (fact.
 helps-by fact skipped done old end new holds (is_behind {q = q} is stuck) = (fact.waits q, holds)
 helps-by fact skipped done old end new holds (helps_first is free first rest) =
     helps-by fact skipped done _ _ _ (helps-by fact skipped done _ _ _ holds first).1 rest
-helps-by fact skipped done old end new holds (fails_first is free first) = helps-by fact skipped done _ _ _ holds first
+helps-by fact skipped done old end new holds (fails_first is free first) =
+    helps-by fact skipped done _ _ _ holds first
 helps-by fact skipped done {place} old end new holds (works is job) =
     (tt, ((done place).by _ _ _ holds job).1)
 helps-by fact skipped done {place} old end new holds (works_on is job rest) =
