@@ -17,3 +17,4 @@ pub mod Derived
 pub mod Only
 pub mod OnlyHelps
 pub mod OnlyLines
+pub mod Stored

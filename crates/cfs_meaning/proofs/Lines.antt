@@ -8,7 +8,7 @@ use Rattle.cfs_script.specs.declared.form.Form.{Form}
 use Rattle.cfs_script.specs.declared.form.Form.TheVariants as forms
 use Rattle.cfs_meaning.specs.World.{Down, Failed, Phase, Up, World, with_drive}
 use Rattle.cfs_meaning.specs.Mounting.{mount_steps}
-use Rattle.cfs_meaning.specs.Laws.{IsGiven}
+use Rattle.cfs_meaning.specs.Laws.{IsGiven, is_mount}
 use Rattle.cfs_meaning.specs.Play.{crash_in, does, joined, mount_line, plan, planned, stopped}
 use Rattle.cfs_meaning.specs.Ways.{Changes, Fault, Halt, Says, ends, follows, gives, halts, now}
 use Rattle.cfs_meaning.proofs.Keeping.{Any, Base, Keeps, keep-each, keep-give, keep-known, keep-look, keep-steps, keep-then, keep-when}
@@ -30,10 +30,6 @@ kept-plan law powers device writing k =
     keep-look (λ w.
     keep-then (keep-known _ _ tt) (λ number is.
     keep-then (record { means = powers.plans number writing k }) (λ u a. keep-give tt)))
-
-abbrev pub is_mount : Form → Bool
-is_mount forms.Mount = true
-is_mount other = false
 
 pub kept-power : (law : Law) → Powers law → (form : Form) → is_plain form ≡ false →
     is_mount form ≡ false → Keeps law.base IsGivenIfAny (does law.line form)

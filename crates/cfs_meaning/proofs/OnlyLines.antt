@@ -12,7 +12,7 @@ use Rattle.cfs_meaning.specs.Names.{ask, free_record}
 use Rattle.cfs_meaning.specs.NameSteps.{refusal_of}
 use Rattle.cfs_meaning.specs.Inode.{Comes, comes}
 use Rattle.cfs_meaning.specs.Files.{Defers, defers, faults, serves}
-use Rattle.cfs_meaning.specs.Laws.{AnswersAreOnly, IsGiven}
+use Rattle.cfs_meaning.specs.Laws.{AnswersAreOnly, IsGiven, is_mount}
 use Rattle.cfs_meaning.specs.Play.{Run, Step, does, goes_on, mount, mount_line, printed, run_ends, steps_so}
 use Rattle.cfs_meaning.specs.Ways.{Changes, Fault, Halt, Says, Waits, Way}
 use Rattle.cfs_meaning.proofs.Keeping.{Any, Keeps, keep-each, keep-give, keep-known, keep-look, keep-say, keep-then}
@@ -20,7 +20,7 @@ use Rattle.cfs_meaning.proofs.Kept.{Law}
 use Rattle.cfs_meaning.proofs.KeptLines.{IsGivenIfAny}
 use Rattle.cfs_meaning.proofs.KeptNames.{kept-store}
 use Rattle.cfs_meaning.proofs.Worlds.{refusal-given}
-use Rattle.cfs_meaning.proofs.Lines.{Powers, is_mount, kept-form, kept-home, only-mount}
+use Rattle.cfs_meaning.proofs.Lines.{Powers, kept-form, kept-home, only-mount}
 use Rattle.cfs_meaning.proofs.Only.{Single, changes-only, err-ok, ok-err, single_base}
 use Rattle.cfs_meaning.proofs.OnlyHelps.{helps-only}
 

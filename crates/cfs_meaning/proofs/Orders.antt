@@ -5,12 +5,12 @@ use Rattle.cfs_requests.proofs.Orders.{orders-go-on}
 use Rattle.cfs_script.specs.declared.form.Form.{Form}
 use Rattle.cfs_meaning.specs.NameSteps.{AreInOrder, Order}
 use Rattle.cfs_meaning.specs.World.{Down, Failed, Phase, Up}
-use Rattle.cfs_meaning.specs.Laws.{AreNamesLegal, IsGiven, NamesStayLegal}
+use Rattle.cfs_meaning.specs.Laws.{AreNamesLegal, IsGiven, NamesStayLegal, is_mount}
 use Rattle.cfs_meaning.specs.Play.{does, mount, mount_line, steps_so}
 use Rattle.cfs_meaning.proofs.Keeping.{Any, Keeps, keep-give, keep-look, keep-say, keep-then}
 use Rattle.cfs_meaning.proofs.Worlds.{WorldLaw, law_of, moves}
 use Rattle.cfs_meaning.proofs.KeptLines.{IsGivenIfAny}
-use Rattle.cfs_meaning.proofs.Lines.{Powers, is_mount, kept-form, kept-home, only-mount}
+use Rattle.cfs_meaning.proofs.Lines.{Powers, kept-form, kept-home, only-mount}
 
 alike : {q q' : ℕ} {b b' : Order} {l l' : List NameEntry} {n n' : Order} → q' ≡ q → b' ≡ b →
     l' ≡ l → n' ≡ n → AreInOrder q b l n → AreInOrder q' b' l' n'

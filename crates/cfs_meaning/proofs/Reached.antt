@@ -1,5 +1,5 @@
 -- Cores stay reached.
-use Rattle.std.proofs.Common.{ℕ, Bool, true, false, List, [], ◌∷◌, refl, if◌then◌else◌}
+use Rattle.std.proofs.Common.{◌≡◌, ℕ, Bool, true, false, List, [], ◌∷◌, refl, if◌then◌else◌}
 use Rattle.std.specs.List.{flat_map}
 use Rattle.cfs_core.specs.declared.inode_core.Core.{Core}
 use Rattle.cfs_core.specs.Fresh.{IsEmpty}
@@ -12,13 +12,15 @@ use Rattle.cfs_dir.specs.declared.change.Change.{Change}
 use Rattle.cfs_dir.specs.declared.change.Change.TheVariants as changes
 use Rattle.cfs_dir.specs.Namespace.{is_directory}
 use Rattle.cfs_meaning.specs.NameSteps.{changes_of}
-use Rattle.cfs_meaning.specs.World.{File, core_in, empty_core, new_file}
+use Rattle.cfs_script.specs.declared.line.Line.{Line}
+use Rattle.cfs_print.specs.declared.out_line.OutLine.{OutLine}
+use Rattle.cfs_meaning.specs.World.{File, World, core_in, empty_core, new_file}
 use Rattle.cfs_meaning.specs.Names.{files_made}
-use Rattle.cfs_meaning.specs.Laws.{AreReached, CoresStayReached, FilesAreGood, OfEachCore}
-use Rattle.cfs_meaning.specs.Play.{steps_so}
+use Rattle.cfs_meaning.specs.Laws.{AreReached, CoresStayReached, FilesAreGood, RunsKeepCores, is_mount, OfEachCore}
+use Rattle.cfs_meaning.specs.Play.{Run, Step, goes_on, run_ends, steps_so}
 use Rattle.cfs_meaning.proofs.Keeping.{Any}
 use Rattle.cfs_meaning.proofs.Worlds.{WorldLaw, law_of, moves}
-use Rattle.cfs_meaning.proofs.Lines.{Powers, line-kept}
+use Rattle.cfs_meaning.proofs.Lines.{Powers, kept-form, line-kept}
 use Rattle.cfs_meaning.proofs.Quiet as quiet
 
 empty-is : IsEmpty empty_core
@@ -105,3 +107,15 @@ all-good (f ∷ files) all =
 
 pub files-good : FilesAreGood
 files-good world reached = all-good world.files reached
+
+step-keeps : {old new : World} {line : Line} {out : List OutLine} → is_mount line.form ≡ false →
+    Step line old out new → AreReached old → AreReached new
+step-keeps {new = new} {line = line} other (steps_so end way) reached =
+    ((kept-form (law_of (reached_law line.number)) (reached-powers line.number) line.form other).means.by
+    _ end new reached way).1
+
+pub runs-keep : RunsKeepCores
+runs-keep old new [] outs none run_ends reached = reached
+runs-keep old new (line ∷ lines) outs none
+    (goes_on {mid = mid} {later = later} step rest) reached =
+    runs-keep mid new lines later none.1 rest (step-keeps none.0 step reached)

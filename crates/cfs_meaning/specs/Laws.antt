@@ -35,6 +35,22 @@ CoresStayReached =
     (old new : World) (line : Line) (out : List OutLine) → old.phase ≡ Up → Step line old out new →
     AreReached old → AreReached new
 
+-- no line mounts
+abbrev pub is_mount : Form → Bool
+is_mount forms.Mount = true
+is_mount other = false
+
+abbrev pub HaveNoMount : List Line → Type 0
+HaveNoMount [] = Unit {0}
+HaveNoMount (line ∷ lines) = (is_mount line.form ≡ false) × HaveNoMount lines
+
+-- So it is at the end of every run until the next mount, whatever fails, and crashes among the
+-- lines.
+abbrev pub RunsKeepCores : Type 0
+RunsKeepCores =
+    (old new : World) (lines : List Line) (outs : List OutLine) → HaveNoMount lines →
+    Run old lines outs new → AreReached old → AreReached new
+
 -- So each file's log is legal, a read that may be served gets its answer, and every image of the
 -- core recovers the file after the log.
 abbrev pub FilesAreGood : Type 0

@@ -89,7 +89,7 @@ mapped drive ino =
 abbrev pub surveyed : Drive → List Op
 surveyed drive =
     words_read selector 1
-    ++ (words_read (table_copy (get_or (words_at drive selector) 0 0 - through_in drive * 2)) 3073
+    ++ (words_read (table_copy (get_or (words_at drive selector) 0 0 % 2)) 3073
     ++ (flat_map (λ j. words_read (journal_record j) 16) (range_with_len 0 64)
     ++ (flat_map (λ rec. words_read (size_word rec) 1) (range_with_len 0 256)
     ++ (flat_map (λ r. words_read r 6) (range_with_len 323 (length drive.regions - 323))

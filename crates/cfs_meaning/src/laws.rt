@@ -1,11 +1,17 @@
 //! What holds of every run, as contracts of functions that do nothing.
 
-ghost use Rattle.cfs_meaning.specs.Laws.{AnswersAreOnly, CalmRunsAnswer, CoresStayReached, FilesAreGood, LogsFollowLines, NamesStayLegal, ReadsAreRight};
+ghost use Rattle.cfs_meaning.specs.Laws.{AnswersAreOnly, CalmRunsAnswer, CoresStayReached, FilesAreGood, LogsFollowLines, NamesStayLegal, ReadsAreRight, RunsKeepCores};
 
 /// While a store is mounted, each line makes of the core of each file one that the laws of cores
 /// hold of: so each file's log is legal, and a read is answered by the file before it.
 pub fn cores_stay_reached()
     ensures { CoresStayReached }
+{}
+
+/// So it is at the end of every run until the next mount, whatever fails, and crashes among its
+/// lines.
+pub fn runs_keep_cores()
+    ensures { RunsKeepCores }
 {}
 
 /// Such a core's log is legal, a read that may be served gets its answer, and each image of the
