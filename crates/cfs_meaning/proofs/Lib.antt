@@ -18,3 +18,4 @@ pub mod Only
 pub mod OnlyHelps
 pub mod OnlyLines
 pub mod Stored
+pub mod Follow

@@ -17,7 +17,7 @@ use Rattle.cfs_print.specs.declared.out_line.OutLine.{OutLine}
 use Rattle.cfs_meaning.specs.World.{File, World, core_in, empty_core, new_file}
 use Rattle.cfs_meaning.specs.Names.{files_made}
 use Rattle.cfs_meaning.specs.Laws.{AreReached, CoresStayReached, FilesAreGood, RunsKeepCores, is_mount, OfEachCore}
-use Rattle.cfs_meaning.specs.Play.{Run, Step, goes_on, run_ends, steps_so}
+use Rattle.cfs_meaning.specs.Play.{Step, goes_on, run_ends, steps_so}
 use Rattle.cfs_meaning.proofs.Keeping.{Any}
 use Rattle.cfs_meaning.proofs.Worlds.{WorldLaw, law_of, moves}
 use Rattle.cfs_meaning.proofs.Lines.{Powers, kept-form, line-kept}
@@ -111,7 +111,8 @@ files-good world reached = all-good world.files reached
 step-keeps : {old new : World} {line : Line} {out : List OutLine} → is_mount line.form ≡ false →
     Step line old out new → AreReached old → AreReached new
 step-keeps {new = new} {line = line} other (steps_so end way) reached =
-    ((kept-form (law_of (reached_law line.number)) (reached-powers line.number) line.form other).means.by
+    ((kept-form (law_of (reached_law line.number)) (reached-powers line.number) line.form
+    other).means.by
     _ end new reached way).1
 
 pub runs-keep : RunsKeepCores

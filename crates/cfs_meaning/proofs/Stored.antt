@@ -1,5 +1,5 @@
 -- The devices of an image that was read, and the image of what devices hold.
-use Rattle.std.proofs.Common.{◌≡◌, ◌∙◌, ℕ, zero, suc, ◌+◌, ◌<◌, List, [], ◌∷◌, ◌++◌, length, map, get_or, drop, refl, sym, ap, arith}
+use Rattle.std.proofs.Common.{◌≡◌, ◌∙◌, ℕ, suc, ◌+◌, List, [], ◌∷◌, length, map, get_or, drop, refl, sym, ap, arith}
 use Rattle.std.specs.Prelude.{Result, Ok, Err, IfOk}
 use Rattle.std.specs.List.{All, enumerate_from, range_with_len}
 use Rattle.std.proofs.lemmas.List.{length-map}
@@ -40,8 +40,8 @@ all-began see holds began [] n new numbers = refl
 all-began see holds began (x ∷ xs) n new numbers =
     let number : (see x).device ≡ n = ap (λ l. get_or l 0 0) numbers in
     let here : see x ≡ began n (holds x) =
-        first-of (λ y. see y ≡ began (see y).device (holds y)) x xs new
-        ∙ ap (λ k. began k (holds x)) number in
+    first-of (λ y. see y ≡ began (see y).device (holds y)) x xs new
+    ∙ ap (λ k. began k (holds x)) number in
     ap (λ s. s ∷ map see xs) here
     ∙ ap (λ l. began n (holds x) ∷ l)
     (all-began see holds began xs (n + 1)
@@ -78,6 +78,7 @@ loaded-so rs bs numbers new_regions new_blocks store =
   where
     its_regions : List (Seen WordStep)
     its_regions = map (λ w. regions.began w.0 w.1) (enumerate_from 0 (words_in rs))
+
     lengths : length (map (λ (r : MemoryRegion). r.seen) rs) ≡ length (words_in rs)
     lengths =
         length-map rs (λ (r : MemoryRegion). r.seen)
@@ -86,6 +87,7 @@ loaded-so rs bs numbers new_regions new_blocks store =
 pub saved-so : (asked : List Asked) (rs : List MemoryRegion) (bs : List MemBlock) →
     image_of (words_in rs) (contents_in bs) ≡ saved (drive_of asked rs bs)
 saved-so asked rs bs =
-    ap (λ w. image_of w (contents_in bs)) (sym (map-both words_of (λ (r : MemoryRegion). r.seen) rs))
+    ap (λ w. image_of w (contents_in bs))
+    (sym (map-both words_of (λ (r : MemoryRegion). r.seen) rs))
     ∙ ap (image_of (map words_of (map (λ (r : MemoryRegion). r.seen) rs)))
     (sym (map-both content_of seen_of bs))

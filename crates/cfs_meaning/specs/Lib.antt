@@ -4,6 +4,7 @@ pub mod Steps
 pub mod NameSteps
 pub mod World
 pub mod Ways
+pub mod Means
 pub mod Inode
 pub mod Names
 pub mod Files

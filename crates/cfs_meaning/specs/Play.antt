@@ -83,6 +83,12 @@ mount_failed world = record world { phase = Failed }
 abbrev pub mounted : World → World
 mounted world = mounted_world world.callers world.drive
 
+abbrev pub stop : ℕ → Way Printed
+stop n = Changes (with_drive (stopped n)) >> give answers.Fine
+
+abbrev pub crash : ℕ → Way Printed
+crash k = Changes (crash_in k) >> give answers.Fine
+
 -- a mount that fails, or that the power cuts, is not tried again before the next crash
 abbrev pub mount : Way Printed
 mount = do
@@ -166,8 +172,8 @@ does line (forms.Settle ino) = up (settle_line ino)
 does line forms.Turn = up turn_line
 does line forms.Drain = up drain
 does line (forms.Queue c fd) = up (opened c fd >>= list_queue)
-does line (forms.Stop n) = told (Changes (with_drive (stopped n)) >> give answers.Fine)
-does line (forms.Crash k) = told (Changes (crash_in k) >> give answers.Fine)
+does line (forms.Stop n) = told (stop n)
+does line (forms.Crash k) = told (crash k)
 does line forms.Mount = told (Now >>= (λ w. mount_line w.phase))
 does line (forms.Fail device k) = told (plan device true k)
 does line (forms.FailRead device k) = told (plan device false k)

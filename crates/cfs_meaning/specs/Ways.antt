@@ -2,15 +2,10 @@
 -- line.
 use Rattle.std.specs.Prelude.{ℕ, suc, Bool, true, false, List, [], ◌∷◌, Option, Some, None, Result, Ok, Err}
 use Rattle.cfs_print.specs.declared.printed.Printed.{Printed}
+pub use Rattle.cfs_meaning.specs.declared.halt.Halt.{Halt}
+pub use Rattle.cfs_meaning.specs.declared.halt.Halt.TheVariants.{Fault, Waits, Says}
 use Rattle.cfs_meaning.specs.Drive.{Op, attempt}
 use Rattle.cfs_meaning.specs.World.{World}
-
--- How a part ends its line: a device failed, another place is in the way, or the line has its
--- answer.
-pub data Halt : Type 0 where
-  Fault : Halt
-  Waits : ℕ → Halt
-  Says : Printed → Halt
 
 -- A part of a line: from which world it comes to which, with a value for what follows, or with the
 -- line's end.
