@@ -1,50 +1,24 @@
 -- The example's run, line by line.
-use Rattle.std.proofs.Common.{true, false, Some, None, List, [], ◌∷◌, refl, ap, subst, if◌then◌else◌}
+use Rattle.std.proofs.Common.{true, false, Some, None, [], ◌∷◌, refl}
 use Rattle.std.specs.Prelude.{Ok}
-use Rattle.cfs_pmem.specs.Meter.{is_off}
-use Rattle.cfs_print.specs.declared.printed.Printed.{Printed}
 use Rattle.cfs_print.specs.declared.printed.Printed.TheVariants as answers
-use Rattle.cfs_script.specs.declared.line.Line.{Line}
 use Rattle.cfs_words.specs.declared.flags.Flags.{Flags}
 use Rattle.cfs_script.specs.declared.form.Form.TheVariants as forms
-use Rattle.cfs_meaning.specs.Drive.{Drive, Op, attempt}
+use Rattle.cfs_meaning.specs.Drive.{Drive}
 use Rattle.cfs_meaning.specs.World.{Descriptor, World}
 use Rattle.cfs_meaning.specs.Laws.{IsCalm}
 use Rattle.cfs_meaning.specs.Example.{TheLinesAnswer, new_world}
 use Rattle.cfs_meaning.specs.Files.{clear_way, serve_helped, serves, works}
 use Rattle.cfs_file.specs.declared.request.Request.TheVariants as requests
 use Rattle.cfs_meaning.specs.Inode.{admit_read, apply, comes, dispatch, finish, run_job, serve}
-use Rattle.cfs_meaning.specs.Play.{Step, does, goes_on, run_ends, steps_so}
-use Rattle.cfs_meaning.specs.Ways.{Tries, changes, counts, follows, gives, now, rests, steps, tried, well}
-use Rattle.cfs_meaning.proofs.Calm.{all-allowed}
-
--- ---- calm operations
-
-done_by : List Op → Drive → Drive
-done_by ops drive = (attempt ops drive).drive
-
-after : List Op → World → World
-after ops w = record w { drive = done_by ops w.drive }
-
-next-calm : (ops : List Op) (drive : Drive) → IsCalm drive → IsCalm (done_by ops drive)
-unfolding done_by
-next-calm ops drive calm = (all-allowed ops drive calm).1
-
-try-calm : {ops : List Op} {w : World} → IsCalm w.drive →
-    Tries ops w (Ok true) (record w { drive = done_by ops w.drive })
-unfolding done_by
-try-calm {ops} {w} calm =
-    subst (λ b. Tries ops w (Ok b) (record w { drive = (attempt ops w.drive).drive }))
-    (all-allowed ops w.drive calm).0 tried
-
-steps-calm : {ops : List Op} {w : World} → IsCalm w.drive →
-    steps ops w (Ok tt) (record w { drive = done_by ops w.drive })
-steps-calm calm = follows (try-calm calm) gives
+use Rattle.cfs_meaning.specs.Play.{does, goes_on, run_ends, steps_so}
+use Rattle.cfs_meaning.specs.Ways.{changes, counts, follows, gives, now, rests, well}
+use Rattle.cfs_meaning.proofs.CalmSteps.{next-calm, prints, steps-calm, try-calm}
 
 -- ---- the lines
 
 abbrev line-one : (drive : Drive) →
-    (new : World) × does 1 (forms.Caller 1 10 10) (new_world drive) (Ok None) new
+    (new : World) × does 1 (forms.Caller 1 10 10) (new_world 1 drive) (Ok None) new
 line-one drive = (_, follows changes gives)
 
 abbrev flags : Flags
@@ -207,15 +181,6 @@ line-four drive calm =
     (follows (serves (helped drive calm)) (follows now gives))))) gives
 
 -- ---- the run
-
--- where the power is on, a line prints its answer
-prints : {line : Line} {old new : World} {answer : Printed} → IsCalm new.drive →
-    does line.number line.form old (Ok (Some answer)) new →
-    Step line old (record { number = line.number; answer = answer } ∷ []) new
-prints {line} {old} {new} {answer} calm way =
-    subst (λ out. Step line old out new)
-    (ap (λ b. record { number = line.number; answer = if b then answers.Stopped else answer } ∷ [])
-    (ap is_off calm.steady)) (steps_so (Ok (Some answer)) way)
 
 pub the-lines-answer : TheLinesAnswer
 the-lines-answer drive calm =

@@ -13,7 +13,9 @@ pub mod Orders
 pub mod LineLogs
 pub mod ReadLines
 pub mod Attempts
+pub mod CalmSteps
 pub mod Derived
+pub mod Superseded
 pub mod Only
 pub mod OnlyHelps
 pub mod OnlyLines

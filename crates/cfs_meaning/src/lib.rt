@@ -10,7 +10,7 @@ mod line;
 mod power;
 
 pub use devices::{keep_tag, keep_word};
-pub use example::the_lines_answer;
+pub use example::{the_lines_answer, the_writes_answer};
 pub use halt::Halt;
 pub use images::{load, save};
 pub use laws::{
