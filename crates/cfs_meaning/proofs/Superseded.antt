@@ -82,12 +82,15 @@ line-five drive calm =
           (follows (follows (follows now gives) (follows gives gives))
           (follows gives (follows gives
           (follows (follows (rests (follows changes (follows now gives))) gives)
-          (follows (follows now (follows (steps-calm five) (follows now (follows gives (follows gives
+          (follows (follows now (follows (steps-calm five) (follows now (follows gives
+          (follows gives
           (follows (gives)
           (follows (follows now gives) (follows now (follows gives
           (follows (gives)
           (follows (follows (try-calm six) (follows (comes refl) (follows changes gives)))
-          (follows now (follows (follows (follows now (follows (try-calm seven) (comes refl))) gives) gives)))))))))))))
+          (follows now
+          (follows (follows (follows now (follows (try-calm seven) (comes refl))) gives)
+          gives)))))))))))))
           (follows gives (follows now gives)))))))) gives,
     )
 
@@ -101,7 +104,8 @@ abbrev line-seven : (drive : Drive) (calm : IsCalm drive) →
     does 7 (forms.Queue 1 1) (line-five drive calm).0
     (Ok (Some (answers.Queued (record { place = 2; letter = letters.Waiting } ∷ []))))
     (line-five drive calm).0
-line-seven drive calm = follows (follows now (follows (follows now gives) (follows now gives))) gives
+line-seven drive calm =
+    follows (follows now (follows (follows now gives) (follows now gives))) gives
 
 pub the-writes-answer : TheWritesAnswer
 the-writes-answer drive calm =

@@ -84,7 +84,8 @@ its_answers =
 -- Whatever the devices hold, while none is made to fail, the script has a run with these answers.
 abbrev pub TheLinesAnswer : Type 0
 TheLinesAnswer =
-    (drive : Drive) → IsCalm drive → (end : World) × Run (new_world 1 drive) the_lines its_answers end
+    (drive : Drive) → IsCalm drive →
+    (end : World) × Run (new_world 1 drive) the_lines its_answers end
 
 -- caller 1 10 10
 -- 1 open /a rwc 0644
