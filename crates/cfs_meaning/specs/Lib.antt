@@ -1,0 +1,17 @@
+pub mod Drive
+pub mod Shown
+pub mod Steps
+pub mod NameSteps
+pub mod World
+pub mod Ways
+pub mod Means
+pub mod Inode
+pub mod Names
+pub mod Files
+pub mod Workers
+pub mod Mounting
+pub mod Play
+pub mod Laws
+pub mod Example
+pub mod Scripts
+pub mod Real

@@ -1,0 +1,46 @@
+//! What holds of every run, as contracts of functions that do nothing.
+
+ghost use Rattle.cfs_meaning.specs.Laws.{AnswersAreOnly, CalmRunsAnswer, CoresStayReached, FilesAreGood, LogsFollowLines, NamesStayLegal, ReadsAreRight, RunsKeepCores};
+
+/// While a store is mounted, each line makes of the core of each file one that the laws of cores
+/// hold of: so each file's log is legal, and a read is answered by the file before it.
+pub fn cores_stay_reached()
+    ensures { CoresStayReached }
+{}
+
+/// So it is at the end of every run until the next mount, whatever fails, and crashes among its
+/// lines.
+pub fn runs_keep_cores()
+    ensures { RunsKeepCores }
+{}
+
+/// Such a core's log is legal, a read that may be served gets its answer, and each image of the
+/// core recovers the file after the log.
+pub fn files_are_good()
+    ensures { FilesAreGood }
+{}
+
+/// The requests on names since a mount stay a legal order, whatever a line does.
+pub fn names_stay_legal()
+    ensures { NamesStayLegal }
+{}
+
+/// Each log has its entries in the order of the lines that they come from.
+pub fn logs_follow_lines()
+    ensures { LogsFollowLines }
+{}
+
+/// A script without stops and failures answers no line with `EIO` or `stopped`.
+pub fn calm_runs_answer()
+    ensures { CalmRunsAnswer }
+{}
+
+/// A line that reads prints the bytes of the file after the entries before its place.
+pub fn reads_are_right()
+    ensures { ReadsAreRight }
+{}
+
+/// A script has one list of answers, and leaves one world.
+pub fn answers_are_only()
+    ensures { AnswersAreOnly }
+{}

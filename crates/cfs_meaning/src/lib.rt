@@ -1,0 +1,24 @@
+//! What a run of scripts means, and what holds of every run.
+#![tactic(auto)]
+
+mod devices;
+mod example;
+mod halt;
+mod images;
+mod laws;
+mod line;
+mod power;
+
+pub use devices::{keep_tag, keep_word};
+pub use example::{the_lines_answer, the_writes_answer};
+pub use halt::Halt;
+pub use images::{load, save};
+pub use laws::{
+    answers_are_only, calm_runs_answer, cores_stay_reached, files_are_good, logs_follow_lines,
+    names_stay_legal, reads_are_right, runs_keep_cores,
+};
+pub use line::stop_line;
+pub use power::{crash, number_of, plan, stop};
+
+#[cfg(test)]
+mod tests;
