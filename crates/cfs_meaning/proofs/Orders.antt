@@ -1,5 +1,5 @@
 -- The requests on names stay a legal order.
-use Rattle.std.proofs.Common.{◌≡◌, ℕ, Bool, true, false, List, length, refl, sym, subst}
+use Rattle.std.proofs.Common.{◌≡◌, ℕ, Bool, true, false, List, refl, sym, subst}
 use Rattle.cfs_requests.specs.Steps.{NameEntry}
 use Rattle.cfs_requests.proofs.Orders.{orders-go-on}
 use Rattle.cfs_script.specs.declared.form.Form.{Form}

@@ -1,6 +1,6 @@
 -- Laws of worlds: what holds of the world before a part of a line holds behind it, and the part
 -- ends only as it may.
-use Rattle.std.proofs.Common.{◌≡◌, ◌∙◌, ℕ, Bool, true, false, Option, Some, None, List, length, refl, ap}
+use Rattle.std.proofs.Common.{◌≡◌, ◌∙◌, ℕ, Bool, true, false, Option, Some, None, List, refl, ap}
 use Rattle.std.specs.Prelude.{Result, Ok, Err, is_none, if◌then◌else◌}
 use Rattle.cfs_core.specs.declared.event.Event.{Event}
 use Rattle.cfs_core.specs.May.{may}
