@@ -1,6 +1,7 @@
 -- What a function on real values does, as a way of worlds.
 use Rattle.std.specs.Prelude.{◌≡◌, Result, List}
 use Rattle.cfs_pmem.specs.declared.trace.Asked.{Asked}
+use Rattle.cfs_meaning.specs.Drive.{Drive}
 use Rattle.cfs_meaning.specs.World.{World}
 use Rattle.cfs_meaning.specs.Ways.{Halt, Way}
 
@@ -14,3 +15,7 @@ pub record Means {A Real : Type 0} (Shows : Real → World → Type 0) (old : Re
 -- the world's power has this history
 abbrev pub ShowsPower : List Asked → World → Type 0
 ShowsPower asked world = world.drive.asked ≡ asked
+
+-- the world's drive is this one
+abbrev pub ShowsDrive : Drive → World → Type 0
+ShowsDrive drive world = world.drive ≡ drive
