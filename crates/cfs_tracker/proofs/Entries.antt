@@ -1,0 +1,207 @@
+-- Entries by their places.
+use Rattle.std.proofs.Common.{◌≡◌, ◌∙◌, ◌<◌, ◌≤◌, ◌+◌, ◌++◌, ◌==◌, ap, arith, cond, false, filter, get_or, inl, inr, length, List, [], ◌∷◌, not, Option, None, Some, refl, set, suc, sym, true, zero, ℕ, Bool}
+use Rattle.std.specs.Prelude.{option_map}
+use Rattle.std.specs.List.{find, position, position_or_len, slice_get}
+use Rattle.std.proofs.lemmas.Bool.{cases_Bool, cases_lt}
+use Rattle.std.proofs.lemmas.Bool.Decides.{nat_tests}
+use Rattle.cfs_tracker.specs.declared.doing.Doing.{Doing}
+use Rattle.cfs_tracker.specs.declared.pending.Pending.{Pending}
+use Rattle.cfs_tracker.specs.View.{doing, entry_at, is_at, with_entry, without}
+use Rattle.cfs_tracker.specs.Follows.{Rise}
+
+-- ---- one entry is found
+
+pub found-place : {S : Type 0} (es : List (Pending S)) (place : ℕ) (e : Pending S) →
+    entry_at es place ≡ Some e → e.place ≡ place
+found-place [] place e h = cc
+found-place (x ∷ xs) place e h = elim (cases_Bool (is_at place x)) [
+  | inl own ↦
+      let it : entry_at (x ∷ xs) place ≡ Some x = rw own refl in
+      let same : Some x ≡ Some e = sym it ∙ h in
+      let is : x ≡ e = cc in
+      rw (sym is) (grind (arith, nat_tests))
+  | inr other ↦
+      let it : entry_at (x ∷ xs) place ≡ entry_at xs place = rw other refl in
+      found-place xs place e (sym it ∙ h)
+]
+
+-- ---- where it stands
+
+pub position-less : {S : Type 0} (es : List (Pending S)) (place at : ℕ) →
+    position (is_at place) es ≡ Some at → (at < length es) × (at ≡ position_or_len (is_at place) es)
+position-less es place at h = grind (arith, nat_tests)
+
+pub with-at : {S : Type 0} (es : List (Pending S)) (place : ℕ) (change : Pending S → Pending S)
+    (d : Pending S) (at : ℕ) → at ≡ position_or_len (is_at place) es → at < length es →
+    with_entry place change es ≡ set es at (change (get_or es at d))
+with-at [] place change d at same less = absurd (omega arith)
+with-at (x ∷ xs) place change d zero same less = elim (cases_Bool (is_at place x)) [
+  | inl own ↦ rw own refl
+  | inr other ↦
+      let here : position_or_len (is_at place) (x ∷ xs) ≡ 1 + position_or_len (is_at place) xs =
+      rw other refl in
+      absurd (omega arith)
+]
+with-at (x ∷ xs) place change d (suc at) same less = elim (cases_Bool (is_at place x)) [
+  | inl own ↦
+      let here : position_or_len (is_at place) (x ∷ xs) ≡ 0 = rw own refl in
+      absurd (omega arith)
+  | inr other ↦
+      let here : position_or_len (is_at place) (x ∷ xs) ≡ 1 + position_or_len (is_at place) xs =
+      rw other refl in
+      rw other (ap (λ ys. x ∷ ys) (with-at xs place change d at (omega arith) (omega arith)))
+]
+
+pub hit : {S : Type 0} (es : List (Pending S)) (place : ℕ) (d : Pending S) (at : ℕ) →
+    at ≡ position_or_len (is_at place) es → at < length es →
+    entry_at es place ≡ Some (get_or es at d)
+hit [] place d at same less = absurd (omega arith)
+hit (x ∷ xs) place d zero same less = elim (cases_Bool (is_at place x)) [
+  | inl own ↦ rw own refl
+  | inr other ↦
+      let here : position_or_len (is_at place) (x ∷ xs) ≡ 1 + position_or_len (is_at place) xs =
+      rw other refl in
+      absurd (omega arith)
+]
+hit (x ∷ xs) place d (suc at) same less = elim (cases_Bool (is_at place x)) [
+  | inl own ↦
+      let here : position_or_len (is_at place) (x ∷ xs) ≡ 0 = rw own refl in
+      absurd (omega arith)
+  | inr other ↦
+      let here : position_or_len (is_at place) (x ∷ xs) ≡ 1 + position_or_len (is_at place) xs =
+      rw other refl in
+      rw other (hit xs place d at (omega arith) (omega arith))
+]
+
+past : {S : Type 0} (es : List (Pending S)) (place : ℕ) →
+    length es ≤ position_or_len (is_at place) es → entry_at es place ≡ None
+past [] place le = refl
+past (x ∷ xs) place le = elim (cases_Bool (is_at place x)) [
+  | inl own ↦
+      let here : position_or_len (is_at place) (x ∷ xs) ≡ 0 = rw own refl in
+      absurd (omega arith)
+  | inr other ↦
+      let here : position_or_len (is_at place) (x ∷ xs) ≡ 1 + position_or_len (is_at place) xs =
+      rw other refl in
+      rw other (past xs place (omega arith))
+]
+
+pub missed : {S : Type 0} (es : List (Pending S)) (place : ℕ) →
+    position (is_at place) es ≡ None → entry_at es place ≡ None
+missed es place none =
+    past es place (elim (cases_lt (position_or_len (is_at place) es) (length es)) [
+      | inl less ↦ grind (arith, nat_tests)
+      | inr le ↦ le
+    ])
+
+pub with-none : {S : Type 0} (es : List (Pending S)) (place : ℕ) (change : Pending S → Pending S) →
+    entry_at es place ≡ None → with_entry place change es ≡ es
+with-none [] place change none = refl
+with-none (x ∷ xs) place change none = elim (cases_Bool (is_at place x)) [
+  | inl own ↦
+      let it : entry_at (x ∷ xs) place ≡ Some x = rw own refl in
+      cc
+  | inr other ↦
+      let it : entry_at (x ∷ xs) place ≡ entry_at xs place = rw other refl in
+      rw other (ap (λ ys. x ∷ ys) (with-none xs place change (sym it ∙ none)))
+]
+
+-- ---- what is found once an entry is changed
+
+not-at : {S : Type 0} (x : Pending S) (place other : ℕ) → (other ≡ place → ⊥) →
+    is_at place x ≡ true → is_at other x ≡ false
+not-at x place other apart own = grind (arith, nat_tests)
+
+pub at-with : {S : Type 0} (es : List (Pending S)) (place other : ℕ)
+    (change : Pending S → Pending S) → ((e : Pending S) → (change e).place ≡ e.place) →
+    (other ≡ place → ⊥) → entry_at (with_entry place change es) other ≡ entry_at es other
+at-with [] place other change keeps apart = refl
+at-with (x ∷ xs) place other change keeps apart = elim (cases_Bool (is_at place x)) [
+  | inl own ↦
+      let was : is_at other x ≡ false = not-at x place other apart own in
+      let now : is_at other (change x) ≡ false = ap (λ n. n == other) (keeps x) ∙ was in
+      rw (own, was, now) refl
+  | inr beside ↦
+      rw beside (ap (λ o. cond (is_at other x) (Some x) o) (at-with xs place other change keeps apart))
+]
+
+pub here-with : {S : Type 0} (es : List (Pending S)) (place : ℕ)
+    (change : Pending S → Pending S) → ((e : Pending S) → (change e).place ≡ e.place) →
+    entry_at (with_entry place change es) place ≡ option_map change (entry_at es place)
+here-with [] place change keeps = refl
+here-with (x ∷ xs) place change keeps = elim (cases_Bool (is_at place x)) [
+  | inl own ↦
+      let now : is_at place (change x) ≡ true = ap (λ n. n == place) (keeps x) ∙ own in
+      rw (own, now) refl
+  | inr beside ↦ rw (beside, beside) (here-with xs place change keeps)
+]
+
+-- ---- what is found once the entries of a place are gone
+
+pub at-without : {S : Type 0} (es : List (Pending S)) (place other : ℕ) →
+    (other ≡ place → ⊥) → entry_at (without place es) other ≡ entry_at es other
+at-without [] place other apart = refl
+at-without (x ∷ xs) place other apart = elim (cases_Bool (is_at place x)) [
+  | inl own ↦
+      let was : is_at other x ≡ false = not-at x place other apart own in
+      rw (own, was) (at-without xs place other apart)
+  | inr beside ↦
+      rw beside (ap (λ o. cond (is_at other x) (Some x) o) (at-without xs place other apart))
+]
+
+pub here-without : {S : Type 0} (es : List (Pending S)) (place : ℕ) →
+    entry_at (without place es) place ≡ None
+here-without [] place = refl
+here-without (x ∷ xs) place = elim (cases_Bool (is_at place x)) [
+  | inl own ↦ rw own (here-without xs place)
+  | inr beside ↦ rw (beside, beside) (here-without xs place)
+]
+
+-- ---- the order of the places
+
+pub rise-from : {S : Type 0} (low less : ℕ) (es : List (Pending S)) → less ≤ low → Rise low es →
+    Rise less es
+rise-from low less [] le rise = tt
+rise-from low less (x ∷ xs) le rise = (omega (arith, rise.0), rise.1)
+
+pub rise-with : {S : Type 0} (low : ℕ) (es : List (Pending S)) (place : ℕ)
+    (change : Pending S → Pending S) → ((e : Pending S) → (change e).place ≡ e.place) →
+    Rise low es → Rise low (with_entry place change es)
+rise-with low [] place change keeps rise = tt
+rise-with low (x ∷ xs) place change keeps rise = elim (cases_Bool (is_at place x)) [
+  | inl own ↦
+      let first : low < (change x).place = rw (keeps x) rise.0 in
+      let rest : Rise (change x).place xs = rw (keeps x) rise.1 in
+      rw own (first, rest)
+  | inr beside ↦ rw beside (rise.0, rise-with x.place xs place change keeps rise.1)
+]
+
+pub rise-without : {S : Type 0} (low : ℕ) (es : List (Pending S)) (place : ℕ) →
+    Rise low es → Rise low (without place es)
+rise-without low [] place rise = tt
+rise-without low (x ∷ xs) place rise = elim (cases_Bool (is_at place x)) [
+  | inl own ↦
+      rw own (rise-without low xs place (rise-from x.place low xs (omega (arith, rise.0)) rise.1))
+  | inr beside ↦ rw beside (rise.0, rise-without x.place xs place rise.1)
+]
+
+later : {S : Type 0} (x : Pending S) (xs : List (Pending S)) (e : Pending S) →
+    x.place < e.place →
+    ((y : Pending S) → entry_at (x ∷ xs) y.place ≡ Some y → y.place < e.place) →
+    (y : Pending S) → entry_at xs y.place ≡ Some y → y.place < e.place
+later x xs e first all y is = elim (cases_Bool (is_at y.place x)) [
+  | inl same ↦
+      let eq : x.place ≡ y.place = grind (arith, nat_tests) in
+      rw (sym eq) first
+  | inr other ↦ all y (rw other is)
+]
+
+-- a new one behind all others
+pub rise-push : {S : Type 0} (low : ℕ) (es : List (Pending S)) (e : Pending S) → low < e.place →
+    ((x : Pending S) → entry_at es x.place ≡ Some x → x.place < e.place) → Rise low es →
+    Rise low (es ++ e ∷ [])
+rise-push low [] e less all rise = (less, tt)
+rise-push low (x ∷ xs) e less all rise =
+    let own : is_at x.place x ≡ true = grind (arith, nat_tests) in
+    let it : entry_at (x ∷ xs) x.place ≡ Some x = rw own refl in
+    (rise.0, rise-push x.place xs e (all x it) (later x xs e (all x it) all) rise.1)

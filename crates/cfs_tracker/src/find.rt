@@ -1,0 +1,37 @@
+//! What is pending is found by its place.
+
+ghost use Rattle.std.specs.Prelude.{◌≡◌, option_copied, option_map};
+ghost use Rattle.std.specs.List.{position};
+ghost use Rattle.cfs_tracker.specs.View.{doing as doing_now, entry_at, is_at, with_entry};
+
+use crate::{Doing, Pending};
+use std::mem;
+
+/// The entry of a place.
+pub(crate) fn entry_of<S>(entries: &[Pending<S>], place: u64) -> Option<&Pending<S>>
+    ensures { option_copied result ≡ entry_at entries.now place }
+{
+    entries.iter().find(|entry| entry.place == place)
+}
+
+/// Where the first entry of a place stands.
+fn position_of<S>(entries: &[Pending<S>], place: u64) -> Option<usize>
+    ensures { result ≡ position (λ e. is_at place e) entries.now }
+{
+    entries.iter().position(|entry| entry.place == place)
+}
+
+/// Puts another doing in the first entry of a place, and gives what it was.
+pub(crate) fn redo<S: Drop>(
+    entries: &mut [Pending<S>],
+    place: u64,
+    doing: Doing<S>,
+) -> Option<Doing<S>>
+    ensures was { result ≡ option_map (λ e. e.doing) (entry_at entries.old place) }
+    ensures new { entries.new ≡ with_entry place (doing_now doing) entries.old }
+{
+    let Some(at) = position_of(entries, place) else {
+        return None;
+    };
+    Some(mem::replace(&mut entries[at].doing, doing))
+}
