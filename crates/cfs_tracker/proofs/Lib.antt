@@ -1,1 +1,5 @@
 pub mod Entries
+pub mod Tracks
+pub mod Putting
+pub mod Skips
+pub mod Settles

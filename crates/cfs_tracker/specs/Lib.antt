@@ -1,3 +1,4 @@
 pub mod View
 pub mod Follows
+pub mod Settle
 pub mod Skip

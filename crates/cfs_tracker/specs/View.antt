@@ -1,5 +1,5 @@
 -- What a tracker is seen as.
-use Rattle.std.specs.Prelude.{ℕ, ◌==◌, Bool, true, false, not, if◌then◌else◌, Option, Some, None, List, [], ◌∷◌, filter, find}
+use Rattle.std.specs.Prelude.{ℕ, ◌-◌, ◌==◌, ◌≤◌, Bool, true, false, not, if◌then◌else◌, Option, Some, None, List, [], ◌∷◌, filter, find, vec_capacity, vec_len}
 use Rattle.cfs_tracker.specs.declared.cell.Cell.{Cell}
 use Rattle.cfs_tracker.specs.declared.doing.Doing.{Doing}
 use Rattle.cfs_tracker.specs.declared.in_doubt.InDoubt.{InDoubt}
@@ -59,3 +59,17 @@ with_entry place change (entry ∷ entries) =
 
 abbrev pub doing : {S : Type 0} → Doing S → Pending S → Pending S
 doing now entry = record entry { doing = now }
+
+-- ---- room
+
+-- for so many entries, and for so many reads, there is room yet
+abbrev pub entry_room : {S D B : Type 0} → Tracker S D B → ℕ
+entry_room tracker = vec_capacity tracker.entries - vec_len tracker.entries
+
+abbrev pub read_room : {S D B : Type 0} → Tracker S D B → ℕ
+read_room tracker = vec_capacity tracker.reads - vec_len tracker.reads
+
+-- there is no less room than there was
+pub record KeepsRoom {S D B : Type 0} (old new : Tracker S D B) : Type 0 where
+  pub entries : entry_room old ≤ entry_room new
+  pub reads : read_room old ≤ read_room new

@@ -1,8 +1,8 @@
 //! What is pending is found by its place.
 
-ghost use Rattle.std.specs.Prelude.{◌≡◌, option_copied, option_map};
+ghost use Rattle.std.specs.Prelude.{◌≡◌, ◌≤◌, option_copied, option_map, vec_capacity, vec_len};
 ghost use Rattle.std.specs.List.{position};
-ghost use Rattle.cfs_tracker.specs.View.{doing as doing_now, entry_at, is_at, with_entry};
+ghost use Rattle.cfs_tracker.specs.View.{doing as doing_now, entry_at, is_at, with_entry, without};
 
 use crate::{Doing, Pending};
 use std::mem;
@@ -22,7 +22,7 @@ fn position_of<S>(entries: &[Pending<S>], place: u64) -> Option<usize>
 }
 
 /// Puts another doing in the first entry of a place, and gives what it was.
-pub(crate) fn redo<S: Drop>(
+fn redo_in<S: Drop>(
     entries: &mut [Pending<S>],
     place: u64,
     doing: Doing<S>,
@@ -34,4 +34,27 @@ pub(crate) fn redo<S: Drop>(
         return None;
     };
     Some(mem::replace(&mut entries[at].doing, doing))
+}
+
+/// The same in a vector.
+pub(crate) fn redo<S: Drop>(
+    entries: &mut Vec<Pending<S>>,
+    place: u64,
+    doing: Doing<S>,
+) -> Option<Doing<S>>
+    ensures was { result ≡ option_map (λ e. e.doing) (entry_at entries.old.items place) }
+    ensures items { entries.new.items ≡ with_entry place (doing_now doing) entries.old.items }
+    ensures room { vec_capacity entries.new ≡ vec_capacity entries.old }
+    ensures long { vec_len entries.new ≡ vec_len entries.old }
+{
+    redo_in(entries.as_mut_slice(), place, doing)
+}
+
+/// Drops the entries of a place.
+pub(crate) fn drop_entry<S: Drop>(entries: &mut Vec<Pending<S>>, place: u64)
+    ensures items { entries.new.items ≡ without place entries.old.items }
+    ensures room { vec_capacity entries.new ≡ vec_capacity entries.old }
+    ensures shorter { vec_len entries.new ≤ vec_len entries.old }
+{
+    entries.retain(|entry| entry.place != place);
 }

@@ -13,6 +13,7 @@ mod find;
 mod in_doubt;
 mod pending;
 mod reading;
+mod settle;
 mod skip;
 
 mod tracker;

@@ -7,9 +7,9 @@ ghost use Rattle.cfs_core.specs.May.{may};
 ghost use Rattle.cfs_core.specs.After.{after};
 ghost use Rattle.cfs_tracker.specs.Follows.{Follows};
 ghost use Rattle.cfs_tracker.specs.Skip.{closing, covered_slots, is_closing, skipped, unclosed};
-ghost use Rattle.cfs_tracker.specs.View.{entry_at, view_of};
+ghost use Rattle.cfs_tracker.specs.View.{KeepsRoom, entry_at, view_of};
 
-use crate::find::{entry_of, redo};
+use crate::find::{drop_entry, entry_of, redo};
 use crate::{Doing, Tracker};
 
 impl<S: Drop, D: Drop, B: Drop> Tracker<S, D, B> {
@@ -19,13 +19,14 @@ impl<S: Drop, D: Drop, B: Drop> Tracker<S, D, B> {
         ensures slots { result ≡ covered_slots (entry_at (view_of self.old).entries place) }
         ensures taken { OnSome result (view_of self.new ≡ closing place (view_of self.old)) }
         ensures unchanged { IfNone result (view_of self.new ≡ view_of self.old) }
+        ensures room { KeepsRoom self.old self.new }
         ensures follows { (core : Core) → Follows (view_of self.old) core →
             Follows (view_of self.new) core }
     {
         if !self.is_covered(place) {
             return None;
         }
-        match redo(self.entries.as_mut_slice(), place, Doing::Closing) {
+        match redo(&mut self.entries, place, Doing::Closing) {
             Some(Doing::Covered(slots)) => Some(slots),
             Some(Doing::Waiting(_) | Doing::Marking | Doing::Out { .. } | Doing::Closing) | None => {
                 unreachable!()
@@ -46,20 +47,22 @@ impl<S: Drop, D: Drop, B: Drop> Tracker<S, D, B> {
     pub fn put_covered(&mut self, place: u64, slots: S)
         requires { is_closing (entry_at (view_of self.old).entries place) ≡ true }
         ensures view { view_of self.new ≡ unclosed place slots (view_of self.old) }
+        ensures room { KeepsRoom self.old self.new }
         ensures follows { (core : Core) → Follows (view_of self.old) core →
             Follows (view_of self.new) core }
     {
-        redo(self.entries.as_mut_slice(), place, Doing::Covered(slots));
+        redo(&mut self.entries, place, Doing::Covered(slots));
     }
 
     /// The slots that `take_covered` gave were closed.
     pub fn skipped(&mut self, place: u64)
         requires { is_closing (entry_at (view_of self.old).entries place) ≡ true }
         ensures view { view_of self.new ≡ skipped place (view_of self.old) }
+        ensures room { KeepsRoom self.old self.new }
         ensures follows { (core : Core) → Follows (view_of self.old) core →
             (may core (events.Skip place) ≡ true)
             × Follows (view_of self.new) (after core (events.Skip place)) }
     {
-        self.entries.retain(|entry| entry.place != place);
+        drop_entry(&mut self.entries, place);
     }
 }

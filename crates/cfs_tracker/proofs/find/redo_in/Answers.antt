@@ -2,7 +2,7 @@ use Rattle.std.proofs.Common.{◌≡◌, ◌∙◌, ap, sym, Some}
 use Rattle.std.specs.Prelude.{option_map}
 use Rattle.cfs_tracker.specs.View.{doing as doing_now}
 use Rattle.cfs_tracker.proofs.Entries.{hit, missed, position-less, with-at, with-none}
-use Rattle.cfs_tracker.proofs.find.redo.Goals as goal
+use Rattle.cfs_tracker.proofs.find.redo_in.Goals as goal
 
 pub returns-in_default-clause-was : goal.returns-in_default-clause-was
 returns-in_default-clause-was g c =
