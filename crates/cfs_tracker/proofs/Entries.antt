@@ -1,5 +1,5 @@
 -- Entries by their places.
-use Rattle.std.proofs.Common.{◌≡◌, ◌∙◌, ◌<◌, ◌≤◌, ◌+◌, ◌++◌, ◌==◌, ap, arith, cond, false, filter, get_or, inl, inr, length, List, [], ◌∷◌, not, Option, None, Some, refl, set, suc, sym, true, zero, ℕ, Bool}
+use Rattle.std.proofs.Common.{◌≡◌, ◌∙◌, ◌<◌, ◌≤◌, ◌+◌, ◌++◌, ◌==◌, ◌⊎◌, ap, arith, cond, false, filter, get_or, inl, inr, length, List, [], ◌∷◌, not, Option, None, Some, refl, set, suc, sym, true, zero, ℕ, Bool}
 use Rattle.std.specs.Prelude.{option_map}
 use Rattle.std.specs.List.{find, position, position_or_len, slice_get}
 use Rattle.std.proofs.lemmas.Bool.{cases_Bool, cases_lt}
@@ -8,22 +8,6 @@ use Rattle.cfs_tracker.specs.declared.doing.Doing.{Doing}
 use Rattle.cfs_tracker.specs.declared.pending.Pending.{Pending}
 use Rattle.cfs_tracker.specs.View.{doing, entry_at, is_at, with_entry, without}
 use Rattle.cfs_tracker.specs.Follows.{Rise}
-
--- ---- one entry is found
-
-pub found-place : {S : Type 0} (es : List (Pending S)) (place : ℕ) (e : Pending S) →
-    entry_at es place ≡ Some e → e.place ≡ place
-found-place [] place e h = cc
-found-place (x ∷ xs) place e h = elim (cases_Bool (is_at place x)) [
-  | inl own ↦
-      let it : entry_at (x ∷ xs) place ≡ Some x = rw own refl in
-      let same : Some x ≡ Some e = sym it ∙ h in
-      let is : x ≡ e = cc in
-      rw (sym is) (grind (arith, nat_tests))
-  | inr other ↦
-      let it : entry_at (x ∷ xs) place ≡ entry_at xs place = rw other refl in
-      found-place xs place e (sym it ∙ h)
-]
 
 -- ---- where it stands
 
@@ -138,24 +122,71 @@ here-with (x ∷ xs) place change keeps = elim (cases_Bool (is_at place x)) [
 
 -- ---- what is found once the entries of a place are gone
 
+pub find-beside : {X : Type 0} (own other : X → Bool) →
+    ((x : X) → own x ≡ true → other x ≡ false) → (xs : List X) →
+    find other (filter (λ x. not (own x)) xs) ≡ find other xs
+find-beside own other apart [] = refl
+find-beside own other apart (x ∷ xs) = elim (cases_Bool (own x)) [
+  | inl is ↦ rw (is, apart x is) (find-beside own other apart xs)
+  | inr none ↦ rw none (ap (λ o. cond (other x) (Some x) o) (find-beside own other apart xs))
+]
+
+pub find-gone : {X : Type 0} (own : X → Bool) (xs : List X) →
+    find own (filter (λ x. not (own x)) xs) ≡ None
+find-gone own [] = refl
+find-gone own (x ∷ xs) = elim (cases_Bool (own x)) [
+  | inl is ↦ rw is (find-gone own xs)
+  | inr none ↦ rw (none, none) (find-gone own xs)
+]
+
 pub at-without : {S : Type 0} (es : List (Pending S)) (place other : ℕ) →
     (other ≡ place → ⊥) → entry_at (without place es) other ≡ entry_at es other
-at-without [] place other apart = refl
-at-without (x ∷ xs) place other apart = elim (cases_Bool (is_at place x)) [
-  | inl own ↦
-      let was : is_at other x ≡ false = not-at x place other apart own in
-      rw (own, was) (at-without xs place other apart)
-  | inr beside ↦
-      rw beside (ap (λ o. cond (is_at other x) (Some x) o) (at-without xs place other apart))
-]
+at-without es place other apart =
+    find-beside (is_at place) (is_at other) (λ x. not-at x place other apart) es
 
 pub here-without : {S : Type 0} (es : List (Pending S)) (place : ℕ) →
     entry_at (without place es) place ≡ None
-here-without [] place = refl
-here-without (x ∷ xs) place = elim (cases_Bool (is_at place x)) [
-  | inl own ↦ rw own (here-without xs place)
-  | inr beside ↦ rw (beside, beside) (here-without xs place)
+here-without es place = find-gone (is_at place) es
+
+-- ---- what a search passes over
+
+pub found-test : {X : Type 0} (test : X → Bool) (xs : List X) (x : X) → find test xs ≡ Some x →
+    test x ≡ true
+found-test test [] x h = cc
+found-test test (y ∷ ys) x h = elim (cases_Bool (test y)) [
+  | inl is ↦
+      let it : find test (y ∷ ys) ≡ Some y = rw is refl in
+      let same : y ≡ x = (let both : Some y ≡ Some x = sym it ∙ h in cc) in
+      rw (sym same) is
+  | inr none ↦
+      let it : find test (y ∷ ys) ≡ find test ys = rw none refl in
+      found-test test ys x (sym it ∙ h)
 ]
+
+-- where nothing passes a test, what another test finds does not
+pub found-not : {X : Type 0} (test other : X → Bool) (xs : List X) (x : X) →
+    find test xs ≡ None → find other xs ≡ Some x → test x ≡ false
+found-not test other [] x none h = cc
+found-not test other (y ∷ ys) x none h = elim (cases_Bool (test y)) [
+  | inl is ↦ (let it : find test (y ∷ ys) ≡ Some y = rw is refl in cc)
+  | inr fails ↦
+      let it : find test (y ∷ ys) ≡ find test ys = rw fails refl in
+      elim (cases_Bool (other y)) [
+        | inl is ↦
+            let there : find other (y ∷ ys) ≡ Some y = rw is refl in
+            let same : y ≡ x = (let both : Some y ≡ Some x = sym there ∙ h in cc) in
+            rw (sym same) fails
+        | inr beyond ↦
+            let there : find other (y ∷ ys) ≡ find other ys = rw beyond refl in
+            found-not test other ys x (sym it ∙ none) (sym there ∙ h)
+      ]
+]
+
+pub found-place : {S : Type 0} (es : List (Pending S)) (place : ℕ) (e : Pending S) →
+    entry_at es place ≡ Some e → e.place ≡ place
+found-place es place e h =
+    let test = found-test (is_at place) es e h in
+    grind (arith, nat_tests)
 
 -- ---- the order of the places
 

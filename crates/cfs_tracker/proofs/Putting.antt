@@ -166,3 +166,9 @@ follows-put {S} {D} {B} view core place t entries reads cells size sizes stored 
   ];
   doubt = follows.doubt;
 }
+
+pub reads-are : {S D B : Type 0} (view : TrackerView S D B) (core : Core)
+    {items reads : List Reading} → items ≡ reads →
+    Follows (record view { reads = reads }) core → Follows (record view { reads = items }) core
+reads-are view core {items} {reads} same follows =
+    subst (λ (rs : List Reading). Follows (record view { reads = rs }) core) (sym same) follows

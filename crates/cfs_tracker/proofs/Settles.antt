@@ -1,4 +1,4 @@
--- The request in doubt is taken out, put back and closed.
+-- The request in doubt is closed.
 use Rattle.std.proofs.Common.{◌≡◌, Option, None, Some, refl, true, ℕ, Bool}
 use Rattle.std.specs.Prelude.{is_some}
 use Rattle.cfs_core.specs.declared.doubt.Doubt.{Doubt}
@@ -10,33 +10,7 @@ use Rattle.cfs_core_laws.specs.Reached.IsReached.{comes}
 use Rattle.cfs_tracker.specs.declared.in_doubt.InDoubt.{InDoubt}
 use Rattle.cfs_tracker.specs.View.{TrackerView}
 use Rattle.cfs_tracker.specs.Follows.{DoubtStands, Follows}
-use Rattle.cfs_tracker.specs.Settle.{settled, with_slots}
-
-with-stands : {D : Type 0} (slots : Option D) (mine : Option (InDoubt D)) (doubt : Option Doubt) →
-    DoubtStands mine doubt → DoubtStands (with_slots slots mine) doubt
-with-stands slots None None stands = stands
-with-stands slots None (Some doubt) stands = stands
-with-stands slots (Some mine) None stands = stands
-with-stands slots (Some mine) (Some doubt) stands =
-    record { place = stands.place; grant = stands.grant; span = stands.span }
-
-pub follows-slots : {S D B : Type 0} (view : TrackerView S D B) (core : Core) (slots : Option D) →
-    Follows view core → Follows (record view { doubt = with_slots slots view.doubt }) core
-follows-slots view core slots follows = record {
-  reached = follows.reached;
-  up = follows.up;
-  count = follows.count;
-  long = follows.long;
-  size = follows.size;
-  sure = follows.sure;
-  entries = follows.entries;
-  rise = follows.rise;
-  syncs = follows.syncs;
-  many = follows.many;
-  cells = follows.cells;
-  lent = follows.lent;
-  doubt = with-stands slots view.doubt core.doubt follows.doubt;
-}
+use Rattle.cfs_tracker.specs.Settle.{settled}
 
 doubt-there : {D : Type 0} (mine : Option (InDoubt D)) (doubt : Option Doubt) →
     DoubtStands mine doubt → is_some mine ≡ true → is_some doubt ≡ true
@@ -49,19 +23,21 @@ pub follows-settled : {S D B : Type 0} (view : TrackerView S D B) (core : Core) 
     (may core events.Settle ≡ true) × Follows (settled view) (after core events.Settle)
 follows-settled view core h follows =
     let there = doubt-there view.doubt core.doubt follows.doubt h in
-    let may_be : may core events.Settle ≡ true = rw (follows.up, there) refl in
-    (may_be, record {
-      reached = comes core events.Settle follows.reached may_be;
-      up = follows.up;
-      count = follows.count;
-      long = follows.long;
-      size = follows.size;
-      sure = follows.sure;
-      entries = follows.entries;
-      rise = follows.rise;
-      syncs = follows.syncs;
-      many = follows.many;
-      cells = follows.cells;
-      lent = follows.lent;
-      doubt = tt;
-    })
+    let may_be : may core events.Settle ≡ true = rw (follows.up, there) refl in (
+      may_be,
+      record {
+        reached = comes core events.Settle follows.reached may_be;
+        up = follows.up;
+        count = follows.count;
+        long = follows.long;
+        size = follows.size;
+        sure = follows.sure;
+        entries = follows.entries;
+        rise = follows.rise;
+        syncs = follows.syncs;
+        many = follows.many;
+        cells = follows.cells;
+        lent = follows.lent;
+        doubt = tt;
+      },
+    )

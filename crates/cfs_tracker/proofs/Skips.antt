@@ -111,21 +111,23 @@ follows-skipped view core place h follows =
     (track-of view core place e follows is).doing in
     let may_be : may core (events.Skip place) ≡ true = rw (follows.up, noop) refl in
     let inside = in-log is_noop refl core.tracks place noop in
-    let unread : read_at view.reads place ≡ None = read-of view core place e follows is in
-    (may_be, follows-put view core place (retired (track core.tracks place))
-    (without place view.entries) view.reads view.cells core.size core.sizes view.stored
-    view.is_sure follows (comes core (events.Skip place) follows.reached may_be) follows.size
-    follows.sure
-    (record {
-      some = inside.0;
-      within = inside.1;
-      entries_beside = λ q apart. at-without view.entries place q apart;
-      reads_beside = λ q apart. refl;
-      here = stands-by (here-without view.entries place) unread refl refl;
-      unread = unread;
-      rise = rise-without 0 view.entries place follows.rise;
-      many = follows.many;
-      cells_stand = follows.cells;
-      lent = λ block has. absurd (no-block states.Closed block refl has);
-      lent_beside = λ q block apart has. follows.lent q block has;
-    }))
+    let unread : read_at view.reads place ≡ None = read-of view core place e follows is in (
+      may_be,
+      follows-put view core place (retired (track core.tracks place))
+          (without place view.entries) view.reads view.cells core.size core.sizes view.stored
+          view.is_sure follows (comes core (events.Skip place) follows.reached may_be) follows.size
+          follows.sure
+          (record {
+            some = inside.0;
+            within = inside.1;
+            entries_beside = λ q apart. at-without view.entries place q apart;
+            reads_beside = λ q apart. refl;
+            here = stands-by (here-without view.entries place) unread refl refl;
+            unread = unread;
+            rise = rise-without 0 view.entries place follows.rise;
+            many = follows.many;
+            cells_stand = follows.cells;
+            lent = λ block has. absurd (no-block states.Closed block refl has);
+            lent_beside = λ q block apart has. follows.lent q block has;
+          }),
+    )

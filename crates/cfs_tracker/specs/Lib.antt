@@ -1,4 +1,5 @@
 pub mod View
 pub mod Follows
+pub mod Reads
 pub mod Settle
 pub mod Skip

@@ -1,5 +1,7 @@
 //! What is being done with a change.
 
+ghost use Rattle.std.specs.Prelude.{◌≡◌};
+
 /// What is being done with a change. `S` is what holds it: the slots of a live request.
 #[derive(Debug, Drop)]
 pub enum Doing<S> {
@@ -16,4 +18,15 @@ pub enum Doing<S> {
     Covered(S),
     /// The same, while its slots are in the caller's hands to be closed.
     Closing,
+}
+
+impl<S> Doing<S> {
+    ghost use Rattle.cfs_tracker.specs.Reads.{is_live_doing};
+
+    /// Waiting or out.
+    pub fn is_live(&self) -> bool
+        ensures { result ≡ is_live_doing self.now }
+    {
+        matches!(self, Doing::Waiting(_) | Doing::Marking | Doing::Out { .. })
+    }
 }

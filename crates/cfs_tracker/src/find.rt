@@ -2,9 +2,10 @@
 
 ghost use Rattle.std.specs.Prelude.{◌≡◌, ◌≤◌, option_copied, option_map, vec_capacity, vec_len};
 ghost use Rattle.std.specs.List.{position};
-ghost use Rattle.cfs_tracker.specs.View.{doing as doing_now, entry_at, is_at, with_entry, without};
+ghost use Rattle.cfs_tracker.specs.Reads.{without_read};
+ghost use Rattle.cfs_tracker.specs.View.{doing as doing_now, entry_at, is_at, read_at, with_entry, without};
 
-use crate::{Doing, Pending};
+use crate::{Doing, Pending, Reading};
 use std::mem;
 
 /// The entry of a place.
@@ -22,11 +23,7 @@ fn position_of<S>(entries: &[Pending<S>], place: u64) -> Option<usize>
 }
 
 /// Puts another doing in the first entry of a place, and gives what it was.
-fn redo_in<S: Drop>(
-    entries: &mut [Pending<S>],
-    place: u64,
-    doing: Doing<S>,
-) -> Option<Doing<S>>
+fn redo_in<S: Drop>(entries: &mut [Pending<S>], place: u64, doing: Doing<S>) -> Option<Doing<S>>
     ensures was { result ≡ option_map (λ e. e.doing) (entry_at entries.old place) }
     ensures new { entries.new ≡ with_entry place (doing_now doing) entries.old }
 {
@@ -57,4 +54,26 @@ pub(crate) fn drop_entry<S: Drop>(entries: &mut Vec<Pending<S>>, place: u64)
     ensures shorter { vec_len entries.new ≤ vec_len entries.old }
 {
     entries.retain(|entry| entry.place != place);
+}
+
+/// The read of a place.
+pub(crate) fn read_of(reads: &[Reading], place: u64) -> Option<Reading>
+    ensures { result ≡ read_at reads.now place }
+{
+    find_read(reads, place).copied()
+}
+
+fn find_read(reads: &[Reading], place: u64) -> Option<&Reading>
+    ensures { option_copied result ≡ read_at reads.now place }
+{
+    reads.iter().find(|read| read.place == place)
+}
+
+/// Drops the reads of a place.
+pub(crate) fn drop_read(reads: &mut Vec<Reading>, place: u64)
+    ensures items { reads.new.items ≡ without_read place reads.old.items }
+    ensures room { vec_capacity reads.new ≡ vec_capacity reads.old }
+    ensures shorter { vec_len reads.new ≤ vec_len reads.old }
+{
+    reads.retain(|read| read.place != place);
 }

@@ -7,15 +7,16 @@
 //! tracker follows, the event may come there, and the tracker follows what it makes.
 #![tactic(auto)]
 
+mod blockers;
 mod cell;
 mod doing;
 mod find;
 mod in_doubt;
 mod pending;
 mod reading;
+mod reads;
 mod settle;
 mod skip;
-
 mod tracker;
 
 pub use cell::Cell;

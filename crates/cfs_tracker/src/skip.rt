@@ -28,9 +28,8 @@ impl<S: Drop, D: Drop, B: Drop> Tracker<S, D, B> {
         }
         match redo(&mut self.entries, place, Doing::Closing) {
             Some(Doing::Covered(slots)) => Some(slots),
-            Some(Doing::Waiting(_) | Doing::Marking | Doing::Out { .. } | Doing::Closing) | None => {
-                unreachable!()
-            }
+            Some(Doing::Waiting(_) | Doing::Marking | Doing::Out { .. } | Doing::Closing) | None =>
+                { unreachable!() }
         }
     }
 
