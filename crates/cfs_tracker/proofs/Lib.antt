@@ -6,3 +6,7 @@ pub mod Settles
 pub mod Pushing
 pub mod Earlier
 pub mod Readings
+pub mod Loading
+pub mod Celling
+pub mod Tagging
+pub mod Admissions

@@ -26,7 +26,8 @@ use Rattle.cfs_tracker.specs.declared.doing.Doing.TheVariants as doings
 use Rattle.cfs_tracker.specs.declared.pending.Pending.{Pending}
 use Rattle.cfs_tracker.specs.declared.reading.Reading.{Reading}
 use Rattle.cfs_tracker.specs.View.{TrackerView, entry_at, read_at}
-use Rattle.cfs_tracker.specs.Follows.{Follows, IsDoing, Rise, StandsAt, cell_at}
+use Rattle.cfs_tracker.specs.Cells.{cell_at}
+use Rattle.cfs_tracker.specs.Follows.{Follows, IsDoing, Rise, StandsAt}
 use Rattle.cfs_tracker.proofs.Putting.{stands-by}
 
 -- ---- tracks

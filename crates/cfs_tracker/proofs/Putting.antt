@@ -17,7 +17,8 @@ use Rattle.cfs_tracker.specs.declared.doing.Doing.{Doing}
 use Rattle.cfs_tracker.specs.declared.pending.Pending.{Pending}
 use Rattle.cfs_tracker.specs.declared.reading.Reading.{Reading}
 use Rattle.cfs_tracker.specs.View.{TrackerView, doing, entry_at, read_at, with_entry, without}
-use Rattle.cfs_tracker.specs.Follows.{CellStands, Follows, IsTrack, Rise, StandsAt, cell_at}
+use Rattle.cfs_tracker.specs.Cells.{cell_at}
+use Rattle.cfs_tracker.specs.Follows.{CellStands, Follows, IsTrack, Rise, StandsAt}
 use Rattle.cfs_tracker.proofs.Entries.{at-with, here-with, rise-with}
 use Rattle.cfs_tracker.proofs.Tracks.{track-here}
 
@@ -172,3 +173,8 @@ pub reads-are : {S D B : Type 0} (view : TrackerView S D B) (core : Core)
     Follows (record view { reads = reads }) core → Follows (record view { reads = items }) core
 reads-are view core {items} {reads} same follows =
     subst (λ (rs : List Reading). Follows (record view { reads = rs }) core) (sym same) follows
+
+pub same-view : {S D B : Type 0} {core : Core} {view other : TrackerView S D B} → view ≡ other →
+    Follows other core → Follows view core
+same-view {S} {D} {B} {core} {view} {other} same follows =
+    subst (λ (v : TrackerView S D B). Follows v core) (sym same) follows

@@ -21,6 +21,7 @@ use Rattle.cfs_tracker.specs.declared.doing.Doing.TheVariants as doings
 use Rattle.cfs_tracker.specs.declared.in_doubt.InDoubt.{InDoubt}
 use Rattle.cfs_tracker.specs.declared.pending.Pending.{Pending}
 use Rattle.cfs_tracker.specs.declared.reading.Reading.{Reading}
+use Rattle.cfs_tracker.specs.Cells.{cell_at}
 use Rattle.cfs_tracker.specs.View.{TrackerView, entry_at, read_at}
 
 abbrev pub block_of : Option Lease → Option ℕ
@@ -95,9 +96,6 @@ DoubtStands None None = Unit {0}
 DoubtStands (Some mine) (Some doubt) = IsDoubt mine doubt
 DoubtStands None (Some doubt) = ⊥
 DoubtStands (Some mine) None = ⊥
-
-abbrev pub cell_at : {B : Type 0} → List (Cell B) → ℕ → Cell B
-cell_at list block = get_or list block kinds.Hole
 
 -- each entry has a greater place than the one before
 abbrev pub Rise : {S : Type 0} → ℕ → List (Pending S) → Type 0

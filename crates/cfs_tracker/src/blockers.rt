@@ -1,10 +1,11 @@
 //! What a read waits for.
 
 ghost use Rattle.std.specs.Prelude.{◌≡◌, find, option_copied};
-ghost use Rattle.cfs_tracker.specs.Reads.{blocker_of_read, has_needed, is_before, is_needed, place_of};
+ghost use Rattle.cfs_tracker.specs.Reads.{blocker_of_read, has_needed, is_before, place_of};
 
+use crate::spans::is_needed;
 use crate::{Doing, Pending, Reading};
-use cfs_file::{BLOCK_LEN, Span, overlaps};
+use cfs_file::{Span, overlaps};
 
 /// The place of the first entry that a read waits for, else of the first whose job has a block that
 /// it needs.
@@ -61,16 +62,5 @@ fn has_needed<S>(span: &Span, doing: &Doing<S>) -> bool
     match doing {
         Doing::Out { first, second } => is_needed(*span, *first) || is_needed(*span, *second),
         Doing::Waiting(_) | Doing::Marking | Doing::Covered(_) | Doing::Closing => false,
-    }
-}
-
-fn is_needed(span: Span, block: Option<u64>) -> bool
-    ensures { result ≡ is_needed span block }
-{
-    match (span, block) {
-        (Span::Range { from, to }, Some(block)) => {
-            from / BLOCK_LEN <= block && block < to.saturating_sub(1) / BLOCK_LEN + 1
-        }
-        (Span::Nothing | Span::From { .. } | Span::Range { .. }, _) => false,
     }
 }

@@ -7,16 +7,21 @@
 //! tracker follows, the event may come there, and the tracker follows what it makes.
 #![tactic(auto)]
 
+mod admit;
 mod blockers;
 mod cell;
+mod cells;
 mod doing;
 mod find;
 mod in_doubt;
+mod new;
 mod pending;
 mod reading;
 mod reads;
 mod settle;
 mod skip;
+mod spans;
+mod tags;
 mod tracker;
 
 pub use cell::Cell;
