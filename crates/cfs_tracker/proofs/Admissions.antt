@@ -62,7 +62,7 @@ mapped-on (kinds.Moving true) flag h is = rw is refl
 mapped-on (kinds.Moving false) flag h is = cc
 
 -- a block that is mapped is one of the file
-mapped-less : {B : Type 0} (cells : List (Cell B)) (block : ℕ) →
+pub mapped-less : {B : Type 0} (cells : List (Cell B)) (block : ℕ) →
     is_mapped (cell_at cells block) ≡ true → block < length cells
 mapped-less cells block h = elim (cases_lt block (length cells)) [
   | inl less ↦ less
@@ -72,7 +72,7 @@ mapped-less cells block h = elim (cases_lt block (length cells)) [
       cc
 ]
 
-mapped-tag : {S D B : Type 0} (view : TrackerView S D B) (core : Core) (block : ℕ) →
+pub mapped-tag : {S D B : Type 0} (view : TrackerView S D B) (core : Core) (block : ℕ) →
     Follows view core → is_mapped (cell_at view.cells block) ≡ true →
     is_on (get_or core.tags block flags.Off) ≡ true
 mapped-tag view core block follows h =

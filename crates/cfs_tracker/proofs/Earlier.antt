@@ -14,7 +14,7 @@ use Rattle.cfs_core.specs.declared.state.Job.{Job}
 use Rattle.cfs_core.specs.declared.state.State.{State}
 use Rattle.cfs_core.specs.declared.state.State.TheVariants as states
 use Rattle.cfs_core.specs.declared.track.Track.{Track}
-use Rattle.cfs_core.specs.Words.{blank, blocks_needed, end_needed, first_needed, has_block, is_lease, is_lent, is_live, track}
+use Rattle.cfs_core.specs.Words.{blank, blocks_needed, end_needed, first_needed, has_block, is_lease, is_lent, is_live, is_unserved, track}
 use Rattle.cfs_core.proofs.Order.{track_is}
 use Rattle.cfs_tracker.specs.declared.doing.Doing.{Doing}
 use Rattle.cfs_tracker.specs.declared.doing.Doing.TheVariants as doings
@@ -80,6 +80,10 @@ lease-block None block h = cc
 lease-block (Some lease) block h =
     (let same : lease.block ≡ block = grind (arith, nat_tests) in ap Some same)
 
+pub or-cases : (a b : Bool) → (a || b) ≡ true → (a ≡ true) ⊎ (b ≡ true)
+or-cases true b h = inl refl
+or-cases false b h = inr h
+
 -- the entry's job has the block
 pub record HasBlock {S : Type 0} (now : Doing S) (block : ℕ) : Type 0 where
   pub first : Option ℕ
@@ -109,10 +113,6 @@ out-block (doings.Out first second) s block is has =
         | inr two ↦ inr (sym is.second_is ∙ lease-block is.job.second block two)
       ];
     }
-  where
-    or-cases : (a b : Bool) → (a || b) ≡ true → (a ≡ true) ⊎ (b ≡ true)
-    or-cases true b h = inl refl
-    or-cases false b h = inr h
 
 pub record IsOutEntry {S : Type 0} (entry : Option (Pending S)) (block : ℕ) : Type 0 where
   pub own : Pending S
@@ -185,3 +185,26 @@ needed-free {S} view core span follows none =
     out.has in
     let clash : true ≡ false = sym yes_ ∙ free in
     cc))
+
+-- ---- what a track says of the read there
+
+pub record IsReadEntry (read : Option Reading) (t : Track) : Type 0 where
+  pub own : Reading
+  pub there : read ≡ Some own
+  pub span : t.span ≡ own.span
+
+entry-served : {S : Type 0} (now : Doing S) (s : State) → IsDoing now s →
+    is_unserved s ≡ false
+entry-served (doings.Waiting slots) s is = rw is refl
+entry-served doings.Marking s is = rw is refl
+entry-served (doings.Out first second) s is = rw is.out refl
+entry-served (doings.Covered slots) s is = rw is refl
+entry-served doings.Closing s is = rw is refl
+
+pub read-entry : {S : Type 0} (entry : Option (Pending S)) (read : Option Reading) (t : Track) →
+    StandsAt entry read t → is_unserved t.state ≡ true → IsReadEntry read t
+read-entry None None t stands h = (let none : is_unserved t.state ≡ false = rw stands refl in cc)
+read-entry None (Some read) t stands h = record { own = read; there = refl; span = stands.span }
+read-entry (Some e) None t stands h =
+    (let none = entry-served e.doing t.state stands.doing in cc)
+read-entry (Some e) (Some read) t stands h = absurd stands

@@ -10,3 +10,4 @@ pub mod Loading
 pub mod Celling
 pub mod Tagging
 pub mod Admissions
+pub mod Dispatching

@@ -58,7 +58,7 @@ pub some-read : (read : Option Reading) → is_some read ≡ true → (r : Readi
 some-read None h = cc
 some-read (Some r) h = (r, refl)
 
-read-place : (reads : List Reading) (place : ℕ) (read : Reading) →
+pub read-place : (reads : List Reading) (place : ℕ) (read : Reading) →
     read_at reads place ≡ Some read → read.place ≡ place
 read-place reads place read is =
     let test = found-test (is_read_at place) reads read is in
@@ -115,7 +115,7 @@ or-none : {X : Type 0} (a b : Option X) → option_or a b ≡ None → (a ≡ No
 or-none None b h = (refl, h)
 or-none (Some x) b h = cc
 
-place-none : {S : Type 0} (entry : Option (Pending S)) → place_of entry ≡ None → entry ≡ None
+pub place-none : {S : Type 0} (entry : Option (Pending S)) → place_of entry ≡ None → entry ≡ None
 place-none None h = refl
 place-none (Some e) h = cc
 

@@ -16,7 +16,7 @@ use Rattle.cfs_core_laws.proofs.Whole.{whole}
 use Rattle.cfs_tracker.specs.declared.cell.Cell.{Cell}
 use Rattle.cfs_tracker.specs.declared.cell.Cell.TheVariants as kinds
 use Rattle.cfs_tracker.specs.View.{TrackerView}
-use Rattle.cfs_tracker.specs.Cells.{cell_at, is_bare, tagged_cell, unsure_in, with_cell}
+use Rattle.cfs_tracker.specs.Cells.{cell_at, is_bare, tagged_cell, with_cell}
 use Rattle.cfs_tracker.specs.Follows.{CellStands, Follows}
 use Rattle.cfs_tracker.proofs.Celling.{follows-cell, is_lent_cell}
 
@@ -69,21 +69,3 @@ follows-tagged view core block home kept less bare follows =
           (λ other apart. get_or-set_other core.tags block other flag flags.Off apart)
           (rw now (tagged-stands home kept)),
     )
-
-unsure-stands : {B : Type 0} (cell : Cell B) (home : B) (flag : Flag) →
-    unsure_in cell ≡ Some home → CellStands cell flag →
-    CellStands {B = B} (kinds.Moving false) flag × (is_lent_cell cell ≡ false)
-unsure-stands kinds.Hole home flag h is = cc
-unsure-stands (kinds.Home block) home flag h is = cc
-unsure-stands (kinds.Unsure block) home flag h is = (is, refl)
-unsure-stands (kinds.Lent place) home flag h is = cc
-unsure-stands (kinds.Moving is_sure) home flag h is = cc
-
-pub follows-retagging : {S D B : Type 0} (view : TrackerView S D B) (core : Core) (block : ℕ)
-    (home : B) → block < FILE_BLOCKS → unsure_in (cell_at view.cells block) ≡ Some home →
-    Follows view core → Follows (with_cell block (kinds.Moving false) view) core
-follows-retagging view core block home less is follows =
-    let both = unsure-stands (cell_at view.cells block) home (get_or core.tags block flags.Off) is
-    (follows.cells block less) in
-    follows-cell view core block (kinds.Moving false) core.tags follows follows.reached less both.1
-    (λ other apart. refl) both.0

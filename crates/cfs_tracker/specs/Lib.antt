@@ -6,3 +6,5 @@ pub mod Admit
 pub mod Reads
 pub mod Settle
 pub mod Skip
+pub mod Dispatch
+pub mod Mark

@@ -21,7 +21,15 @@ pub enum Doing<S> {
 }
 
 impl<S> Doing<S> {
+    ghost use Rattle.cfs_tracker.specs.Dispatch.{is_waiting_doing};
     ghost use Rattle.cfs_tracker.specs.Reads.{is_live_doing};
+
+    /// Waiting, with its slots.
+    pub fn is_waiting(&self) -> bool
+        ensures { result ≡ is_waiting_doing self.now }
+    {
+        matches!(self, Doing::Waiting(_))
+    }
 
     /// Waiting or out.
     pub fn is_live(&self) -> bool

@@ -8,12 +8,17 @@
 #![tactic(auto)]
 
 mod admit;
+mod ahead;
 mod blockers;
 mod cell;
 mod cells;
+mod covers;
+mod dispatch;
 mod doing;
 mod find;
 mod in_doubt;
+mod lending;
+mod mark;
 mod new;
 mod pending;
 mod reading;
@@ -21,7 +26,10 @@ mod reads;
 mod settle;
 mod skip;
 mod spans;
+mod step;
 mod tags;
+mod taken;
+mod tile;
 mod tracker;
 
 pub use cell::Cell;
@@ -29,4 +37,7 @@ pub use doing::Doing;
 pub use in_doubt::InDoubt;
 pub use pending::Pending;
 pub use reading::Reading;
+pub use step::Step;
+pub use taken::Taken;
+pub use tile::Tile;
 pub use tracker::Tracker;
