@@ -4,7 +4,7 @@ use Rattle.std.specs.Prelude.{nat_lt, nat_le}
 use Rattle.std.specs.List.{find, list_any, range_with_len}
 use Rattle.std.proofs.lemmas.Bool.{cases_Bool, cases_lt}
 use Rattle.std.proofs.lemmas.Bool.Decides.{nat_tests}
-use Rattle.std.proofs.lemmas.List.{get_or-take, length-take}
+use Rattle.std.proofs.lemmas.List.{get_or-take, length-take, get_or-drop, length-drop}
 use Rattle.std.proofs.lemmas.List.FromFn.{get_or-range_with_len, length-range_with_len}
 use Rattle.cfs_file.specs.declared.span.Span.{Span}
 use Rattle.cfs_file.specs.Span.{meets}
@@ -208,3 +208,27 @@ read-entry None (Some read) t stands h = record { own = read; there = refl; span
 read-entry (Some e) None t stands h =
     (let none = entry-served e.doing t.state stands.doing in cc)
 read-entry (Some e) (Some read) t stands h = absurd stands
+
+-- a test of the tracks between two places
+pub between-none : (test : Track → Bool) (tracks : List Track) (place by : ℕ) →
+    ((q : ℕ) → place < q → q < by → test (track tracks q) ≡ false) →
+    list_any test (drop place (take (by - 1) tracks)) ≡ false
+between-none test tracks place by none =
+    any-false test blank (drop place (take (by - 1) tracks)) (λ i less.
+    let low : place + i < by - 1 =
+    omega (arith, length-drop place (take (by - 1) tracks), length-take (by - 1) tracks) in
+    let is : track tracks (place + i + 1) ≡ get_or tracks (place + i) blank =
+    track_is tracks (place + i + 1) (place + i) (λ e. omega arith) (omega arith) in
+    let tested : test (track tracks (place + i + 1)) ≡ false =
+    none (place + i + 1) (omega arith) (omega arith) in
+    ap test (get_or-drop place (take (by - 1) tracks) i blank)
+    ∙ (ap test (get_or-take (by - 1) tracks (place + i) blank low)
+    ∙ (ap test (sym is) ∙ tested)))
+
+pub live-yes : {S : Type 0} (now : Doing S) (s : State) → IsDoing now s →
+    is_live_doing now ≡ true → is_live s ≡ true
+live-yes (doings.Waiting slots) s is live = rw is refl
+live-yes doings.Marking s is live = rw is refl
+live-yes (doings.Out first second) s is live = rw is.out refl
+live-yes (doings.Covered slots) s is live = cc
+live-yes doings.Closing s is live = cc

@@ -1,9 +1,10 @@
 -- Entries by their places.
 use Rattle.std.proofs.Common.{◌≡◌, ◌∙◌, ◌<◌, ◌≤◌, ◌+◌, ◌++◌, ◌==◌, ◌⊎◌, ap, arith, cond, false, filter, get_or, inl, inr, length, List, [], ◌∷◌, not, Option, None, Some, refl, set, suc, sym, true, zero, ℕ, Bool}
 use Rattle.std.specs.Prelude.{option_map}
-use Rattle.std.specs.List.{find, position, position_or_len, slice_get}
+use Rattle.std.specs.List.{find, list_any, position, position_or_len, slice_get}
 use Rattle.std.proofs.lemmas.Bool.{cases_Bool, cases_lt}
 use Rattle.std.proofs.lemmas.Bool.Decides.{nat_tests}
+use Rattle.cfs_core.proofs.Legal.{neither}
 use Rattle.cfs_tracker.specs.declared.doing.Doing.{Doing}
 use Rattle.cfs_tracker.specs.declared.pending.Pending.{Pending}
 use Rattle.cfs_tracker.specs.View.{doing, entry_at, is_at, with_entry, without}
@@ -236,3 +237,12 @@ rise-push low (x ∷ xs) e less all rise =
     let own : is_at x.place x ≡ true = grind (arith, nat_tests) in
     let it : entry_at (x ∷ xs) x.place ≡ Some x = rw own refl in
     (rise.0, rise-push x.place xs e (all x it) (later x xs e (all x it) all) rise.1)
+
+-- ---- tests of a whole list
+
+pub none-any : {X : Type 0} (test : X → Bool) (xs : List X) → list_any test xs ≡ false →
+    find test xs ≡ None
+none-any test [] none = refl
+none-any test (x ∷ xs) none =
+    let parts = neither (test x) (list_any test xs) none in
+    rw parts.0 (none-any test xs parts.1)

@@ -11,3 +11,4 @@ pub mod Celling
 pub mod Tagging
 pub mod Admissions
 pub mod Dispatching
+pub mod Marking

@@ -4,6 +4,7 @@ use Rattle.std.specs.Prelude.{option_map}
 use Rattle.cfs_file.specs.declared.sizes.TheConstants.{FILE_BLOCKS}
 use Rattle.cfs_core.specs.declared.flag.Flag.TheVariants as flags
 use Rattle.cfs_core.specs.declared.inode_core.Core.{Core}
+use Rattle.cfs_core.specs.declared.state.State.{State}
 use Rattle.cfs_core.specs.declared.track.Track.{Track}
 use Rattle.cfs_core.specs.Words.{has_block, track}
 use Rattle.cfs_core.specs.May.{is_sync_at}
@@ -18,7 +19,7 @@ use Rattle.cfs_tracker.specs.declared.pending.Pending.{Pending}
 use Rattle.cfs_tracker.specs.declared.reading.Reading.{Reading}
 use Rattle.cfs_tracker.specs.View.{TrackerView, doing, entry_at, read_at, with_entry, without}
 use Rattle.cfs_tracker.specs.Cells.{cell_at}
-use Rattle.cfs_tracker.specs.Follows.{CellStands, Follows, IsTrack, Rise, StandsAt}
+use Rattle.cfs_tracker.specs.Follows.{CellStands, Follows, IsDoing, IsTrack, Rise, StandsAt, gate_for, is_dead}
 use Rattle.cfs_tracker.proofs.Entries.{at-with, here-with, rise-with}
 use Rattle.cfs_tracker.proofs.Tracks.{track-here}
 
@@ -99,6 +100,20 @@ follows-redo {S} view core place now follows keeps = record {
   cells = follows.cells;
   lent = follows.lent;
   doubt = follows.doubt;
+}
+
+-- another doing of the same state
+pub redo-alike : {S : Type 0} (now : Doing S) (entry : Pending S) (t : Track) →
+    ((s : State) → IsDoing entry.doing s → IsDoing now s) → is_dead entry.doing ≡ is_dead now →
+    IsTrack entry t → IsTrack (doing now entry) t
+redo-alike now entry t goes same is = record {
+  grant = is.grant;
+  span = is.span;
+  applied = is.applied;
+  done = is.done;
+  doing = goes t.state is.doing;
+  gate = is.gate ∙ ap (λ (dead : Bool). gate_for dead entry.applied) same;
+  idle = is.idle;
 }
 
 -- ---- one track is put

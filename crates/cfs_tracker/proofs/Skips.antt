@@ -18,21 +18,7 @@ use Rattle.cfs_tracker.specs.Follows.{Follows, IsDoing, IsTrack, gate_for, is_de
 use Rattle.cfs_tracker.specs.Skip.{closing, covered_in, covered_slots, is_closed_by_caller, is_closing, skipped, unclosed}
 use Rattle.cfs_tracker.proofs.Entries.{at-without, here-without, rise-without}
 use Rattle.cfs_tracker.proofs.Tracks.{in-log, no-block}
-use Rattle.cfs_tracker.proofs.Putting.{follows-put, follows-redo, read-of, stands-by, track-of}
-
--- another doing that is dead too
-redo-dead : {S : Type 0} (now : Doing S) (entry : Pending S) (t : Track) →
-    ((s : State) → IsDoing entry.doing s → IsDoing now s) → is_dead entry.doing ≡ is_dead now →
-    IsTrack entry t → IsTrack (doing now entry) t
-redo-dead now entry t goes same is = record {
-  grant = is.grant;
-  span = is.span;
-  applied = is.applied;
-  done = is.done;
-  doing = goes t.state is.doing;
-  gate = is.gate ∙ ap (λ (dead : Bool). gate_for dead entry.applied) same;
-  idle = is.idle;
-}
+use Rattle.cfs_tracker.proofs.Putting.{follows-put, follows-redo, read-of, redo-alike, stands-by, track-of}
 
 covered-closing : {S : Type 0} (now : Doing S) (slots : S) (s : State) →
     covered_in now ≡ Some slots → IsDoing now s → IsDoing {S = S} Closing s
@@ -57,7 +43,7 @@ follows-closing view core place slots h follows =
     follows-redo view core place Closing follows
     (λ e is was.
     let covers : covered_in e.doing ≡ Some slots = sym (ap covered_slots is) ∙ h in
-    redo-dead Closing e (track core.tracks place)
+    redo-alike Closing e (track core.tracks place)
     (λ s. covered-closing e.doing slots s covers) (covered-dead e.doing slots covers) was)
 
 closed-covered : {S : Type 0} (now : Doing S) (slots : S) (s : State) →
@@ -82,7 +68,7 @@ follows-unclosed view core place slots h follows =
     follows-redo view core place (Covered slots) follows
     (λ e is was.
     let closes : is_closed_by_caller e.doing ≡ true = sym (ap is_closing is) ∙ h in
-    redo-dead (Covered slots) e (track core.tracks place)
+    redo-alike (Covered slots) e (track core.tracks place)
     (λ s. closed-covered e.doing slots s closes) (closed-dead e.doing closes) was)
 
 closed-noop : {S : Type 0} (now : Doing S) (s : State) →

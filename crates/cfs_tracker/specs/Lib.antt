@@ -8,3 +8,4 @@ pub mod Settle
 pub mod Skip
 pub mod Dispatch
 pub mod Mark
+pub mod Finish

@@ -16,7 +16,7 @@ pub(crate) fn entry_of<S>(entries: &[Pending<S>], place: u64) -> Option<&Pending
 }
 
 /// Where the first entry of a place stands.
-fn position_of<S>(entries: &[Pending<S>], place: u64) -> Option<usize>
+pub(crate) fn position_of<S>(entries: &[Pending<S>], place: u64) -> Option<usize>
     ensures { result ≡ position (λ e. is_at place e) entries.now }
 {
     entries.iter().position(|entry| entry.place == place)
