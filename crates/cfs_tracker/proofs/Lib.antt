@@ -12,3 +12,4 @@ pub mod Tagging
 pub mod Admissions
 pub mod Dispatching
 pub mod Marking
+pub mod Finishing

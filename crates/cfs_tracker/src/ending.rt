@@ -113,9 +113,7 @@ fn redo_more_in<S: Drop>(
     let Some(at) = position_of(entries, place) else {
         return;
     };
-    let done = last_number(entries[at].done, first, second);
-    entries[at].done = done;
-    entries[at].doing = Doing::Waiting(slots);
+    redo_entry(&mut entries[at], slots, first, second);
 }
 
 /// The first entry of a place waits again, and is applied.
@@ -134,6 +132,24 @@ fn redo_applied_in<S: Drop>(entries: &mut [Pending<S>], place: u64, slots: S)
     let Some(at) = position_of(entries, place) else {
         return;
     };
-    entries[at].applied = true;
-    entries[at].doing = Doing::Waiting(slots);
+    apply_entry(&mut entries[at], slots);
+}
+
+fn redo_entry<S: Drop>(
+    entry: &mut Pending<S>,
+    slots: S,
+    first: Option<u64>,
+    second: Option<u64>,
+)
+    ensures { entry.new ≡ more_entry slots first second entry.old }
+{
+    entry.done = last_number(entry.done, first, second);
+    entry.doing = Doing::Waiting(slots);
+}
+
+fn apply_entry<S: Drop>(entry: &mut Pending<S>, slots: S)
+    ensures { entry.new ≡ applied_entry slots entry.old }
+{
+    entry.applied = true;
+    entry.doing = Doing::Waiting(slots);
 }

@@ -73,7 +73,7 @@ impl<S: Drop, D: Drop, B: Drop> Tracker<S, D, B> {
         first: Option<Tile<B>>,
         second: Option<Tile<B>>,
     )
-        requires out { IsOut (view_of self.old) place first second }
+        requires { IsOut (view_of self.old) place first second }
         ensures view { view_of self.new ≡ more place slots first second (view_of self.old) }
         ensures room { KeepsRoom self.old self.new }
         ensures follows { (core : Core) → Follows (view_of self.old) core →
