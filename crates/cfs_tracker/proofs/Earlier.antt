@@ -131,16 +131,22 @@ out-entry (Some e) (Some read) t block stands has = absurd stands
 
 -- ---- no block of a list is out
 
+-- a test of all tracks
+pub all-none : (test : Track → Bool) (tracks : List Track) →
+    ((q : ℕ) → test (track tracks q) ≡ false) → list_any test tracks ≡ false
+all-none test tracks none =
+    any-false test blank tracks (λ i less.
+    let is : track tracks (i + 1) ≡ get_or tracks i blank =
+    track_is tracks (i + 1) i (λ e. omega arith) (omega arith) in
+    ap test (sym is) ∙ none (i + 1))
+
 pub not-lent : (tracks : List Track) (block : ℕ) →
     ((q : ℕ) → has_block (track tracks q).state block ≡ true → ⊥) →
     is_lent tracks block ≡ false
 not-lent tracks block none =
-    any-false (λ t. has_block t.state block) blank tracks (λ i less.
-    let is : track tracks (i + 1) ≡ get_or tracks i blank =
-    track_is tracks (i + 1) i (λ e. omega arith) (omega arith) in
-    elim (cases_Bool (has_block (get_or tracks i blank).state block)) [
-      | inl has ↦
-          absurd (none (i + 1) (subst (λ (t : Track). has_block t.state block ≡ true) (sym is) has))
+    all-none (λ t. has_block t.state block) tracks (λ q.
+    elim (cases_Bool (has_block (track tracks q).state block)) [
+      | inl has ↦ absurd (none q has)
       | inr free ↦ free
     ])
 

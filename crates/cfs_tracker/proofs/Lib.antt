@@ -13,3 +13,5 @@ pub mod Admissions
 pub mod Dispatching
 pub mod Marking
 pub mod Finishing
+pub mod Trimming
+pub mod JobSteps

@@ -10,10 +10,17 @@ cell_at list block = get_or list block kinds.Hole
 abbrev pub with_cell : {S D B : Type 0} → ℕ → Cell B → TrackerView S D B → TrackerView S D B
 with_cell block cell view = record view { cells = set view.cells block cell }
 
--- the block whose tag is unsure
-abbrev pub unsure_in : {B : Type 0} → Cell B → Option B
-unsure_in (kinds.Unsure block) = Some block
-unsure_in _ = None
+-- the block that is kept here
+abbrev pub held_in : {B : Type 0} → Cell B → Option B
+held_in (kinds.Home home) = Some home
+held_in (kinds.Unsure home) = Some home
+held_in _ = None
+
+-- it is in the caller's hands now
+abbrev pub moving : {B : Type 0} → Cell B → Cell B
+moving (kinds.Home home) = kinds.Moving true
+moving (kinds.Unsure home) = kinds.Moving false
+moving cell = cell
 
 -- no block is tagged in every image, and none is kept here
 abbrev pub is_bare : {B : Type 0} → Cell B → Bool

@@ -9,3 +9,5 @@ pub mod Skip
 pub mod Dispatch
 pub mod Mark
 pub mod Finish
+pub mod Trim
+pub mod Work

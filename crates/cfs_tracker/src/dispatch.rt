@@ -8,7 +8,7 @@ ghost use Rattle.cfs_core.specs.declared.inode_core.Core.{Core};
 ghost use Rattle.cfs_core.specs.May.{may};
 ghost use Rattle.cfs_core.specs.After.{after};
 ghost use Rattle.cfs_tracker.specs.declared.step.Step.TheVariants.{Takes as takes};
-ghost use Rattle.cfs_tracker.specs.Dispatch.{ahead, dispatched, first_cell, holder, is_still, lesser, second_cell, step_at, step_behind, step_of_blocks, tile_at, waiting_slots};
+ghost use Rattle.cfs_tracker.specs.Dispatch.{ahead, dispatched, first_cell, holder, is_still, lesser, second_cell, step_at, step_behind, step_of, step_of_blocks, tile_at, waiting_slots};
 ghost use Rattle.cfs_tracker.specs.Follows.{Follows};
 ghost use Rattle.cfs_tracker.specs.View.{KeepsRoom, entry_at, view_of};
 
@@ -26,14 +26,18 @@ impl<S: Drop, D: Drop, B: Drop> Tracker<S, D, B> {
         ensures { result ≡ step_at (view_of self.now) place }
     {
         match entry_of(self.entries.as_slice(), place) {
-            Some(entry) => {
-                if entry.doing.is_waiting() {
-                    self.step_behind(entry, self.ahead(entry))
-                } else {
-                    Step::NotWaiting
-                }
-            }
+            Some(entry) => self.step_of(entry),
             None => Step::NotWaiting,
+        }
+    }
+
+    pub(crate) fn step_of(&self, entry: &Pending<S>) -> Step
+        ensures { result ≡ step_of (view_of self.now) (Some entry.now) }
+    {
+        if entry.doing.is_waiting() {
+            self.step_behind(entry, self.ahead(entry))
+        } else {
+            Step::NotWaiting
         }
     }
 

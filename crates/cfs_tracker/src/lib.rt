@@ -33,6 +33,9 @@ mod tags;
 mod taken;
 mod tile;
 mod tracker;
+mod trim;
+mod work;
+mod work_item;
 
 pub use cell::Cell;
 pub use doing::Doing;
@@ -43,3 +46,4 @@ pub use step::Step;
 pub use taken::Taken;
 pub use tile::Tile;
 pub use tracker::Tracker;
+pub use work_item::Work;

@@ -1,13 +1,12 @@
 //! Blocks are tagged.
 
-ghost use Rattle.std.specs.Prelude.{◌≡◌, ◌<◌, false, true, IfNone, OnSome};
+ghost use Rattle.std.specs.Prelude.{◌≡◌, ◌<◌, true};
 ghost use Rattle.cfs_file.specs.declared.sizes.TheConstants.{FILE_BLOCKS};
 ghost use Rattle.cfs_core.specs.declared.event.Event.TheVariants as events;
 ghost use Rattle.cfs_core.specs.declared.inode_core.Core.{Core};
 ghost use Rattle.cfs_core.specs.May.{may};
 ghost use Rattle.cfs_core.specs.After.{after};
-ghost use Rattle.cfs_tracker.specs.declared.cell.Cell.TheVariants as kinds;
-ghost use Rattle.cfs_tracker.specs.Cells.{cell_at, is_bare, tagged_cell, unsure_in, with_cell};
+ghost use Rattle.cfs_tracker.specs.Cells.{cell_at, held_in, is_bare, moving, tagged_cell, with_cell};
 ghost use Rattle.cfs_tracker.specs.Follows.{Follows};
 ghost use Rattle.cfs_tracker.specs.View.{KeepsRoom, view_of};
 
@@ -24,27 +23,34 @@ fn tagged_cell<B>(home: B, kept: bool) -> Cell<B>
     }
 }
 
+fn take_from<B: Drop>(cell: &mut Cell<B>) -> Option<B>
+    ensures block { result ≡ held_in cell.old }
+    ensures cell { cell.new ≡ moving cell.old }
+{
+    let is_sure = matches!(cell, Cell::Home(_));
+    match cell {
+        Cell::Home(_) | Cell::Unsure(_) => {}
+        Cell::Hole | Cell::Lent(_) | Cell::Moving(_) => return None,
+    }
+    match mem::replace(cell, Cell::Moving(is_sure)) {
+        Cell::Home(home) | Cell::Unsure(home) => Some(home),
+        Cell::Hole | Cell::Lent(_) | Cell::Moving(_) => unreachable!(),
+    }
+}
+
 impl<S: Drop, D: Drop, B: Drop> Tracker<S, D, B> {
-    /// Takes the block out whose tag for a block of the file is unsure, to be tagged again; none
-    /// exactly where there is no such block. `tagged` comes next.
-    pub fn take_unsure(&mut self, block: u64) -> Option<B>
+    /// Takes the block out that is kept for a block of the file, to be tagged again, where its tag
+    /// is unsure, or given up; none exactly where none is kept. `tagged` or `trimmed` comes next.
+    pub fn take_block(&mut self, block: u64) -> Option<B>
         requires { block < FILE_BLOCKS }
-        ensures block { result ≡ unsure_in (cell_at (view_of self.old).cells block) }
-        ensures taken { OnSome result (view_of self.new ≡
-            with_cell block (kinds.Moving false) (view_of self.old)) }
-        ensures unchanged { IfNone result (view_of self.new ≡ view_of self.old) }
+        ensures block { result ≡ held_in (cell_at (view_of self.old).cells block) }
+        ensures view { view_of self.new ≡
+            with_cell block (moving (cell_at (view_of self.old).cells block)) (view_of self.old) }
         ensures room { KeepsRoom self.old self.new }
         ensures follows { (core : Core) → Follows (view_of self.old) core →
             Follows (view_of self.new) core }
     {
-        match &self.cells[block as usize] {
-            Cell::Unsure(_) => {}
-            Cell::Hole | Cell::Home(_) | Cell::Lent(_) | Cell::Moving(_) => return None,
-        }
-        match mem::replace(&mut self.cells[block as usize], Cell::Moving(false)) {
-            Cell::Unsure(home) => Some(home),
-            Cell::Hole | Cell::Home(_) | Cell::Lent(_) | Cell::Moving(_) => unreachable!(),
-        }
+        take_from(&mut self.cells[block as usize])
     }
 
     /// A zero block was tagged for a block of the file, or, where that was not kept, its tag failed.
