@@ -11,10 +11,10 @@ use Rattle.cfs_core.specs.declared.state.State.{State}
 use Rattle.cfs_core.specs.declared.state.State.TheVariants as states
 use Rattle.cfs_core.specs.declared.stretch.Stretch.{Stretch}
 use Rattle.cfs_core.specs.declared.track.Track.{Track}
-use Rattle.cfs_core.specs.Words.{has_block, is_lease, is_out, track}
+use Rattle.cfs_core.specs.Words.{end_in, has_block, is_lease, is_out, start_in, track}
 use Rattle.cfs_core.specs.Jobs.{lease_flushed, lease_written, note_flush, note_write, state_flushed, state_written}
-use Rattle.cfs_core.specs.May.{may, may_flush}
-use Rattle.cfs_core.specs.After.{after, with_state}
+use Rattle.cfs_core.specs.May.{is_in_phase, may, may_flush, may_write}
+use Rattle.cfs_core.specs.After.{after, block_written, flushed, with_state}
 use Rattle.cfs_core.proofs.Apart.{block_out}
 use Rattle.cfs_core.proofs.Legal.{both}
 use Rattle.cfs_core.proofs.Marks.{track_beside}
@@ -185,3 +185,46 @@ out-of-flush : (core : Core) (place block : ℕ) → may_flush core place block 
 out-of-flush core place block h =
     block_out (track core.tracks place).state block
     (both (nat_lt block FILE_BLOCKS) (has_block (track core.tracks place).state block) h).1
+
+write-flush : (core : Core) (place block : ℕ) (left : Option (List ℕ)) →
+    may_write core place block left ≡ true → may_flush core place block ≡ true
+write-flush core place block None h = h
+write-flush core place block (Some left) h =
+    (both (may_flush core place block)
+    (length left == end_in (track core.tracks place).span block - start_in
+    (track core.tracks place).span block) h).0
+
+pub follows-write : {S D B : Type 0} (view : TrackerView S D B) (core : Core) (place block : ℕ)
+    (left : Option (List ℕ)) → Follows view core →
+    may core (events.BlockWrite place block left) ≡ true →
+    Follows view (after core (events.BlockWrite place block left))
+follows-write view core place block None follows h =
+    let t = track core.tracks place in
+    let flush = (both (is_in_phase core.crashed (events.BlockWrite place block None))
+    (may_write core place block None) h).1 in
+    follows-step view core place (state_written block true t.state)
+    (block_written core place block None).bytes (block_written core place block None).loose follows
+    (out-of-flush core place block flush) (write-same block true t.state)
+    (comes core (events.BlockWrite place block None) follows.reached h)
+follows-write view core place block (Some left) follows h =
+    let t = track core.tracks place in
+    let flush = write-flush core place block (Some left)
+    (both (is_in_phase core.crashed (events.BlockWrite place block (Some left)))
+    (may_write core place block (Some left)) h).1 in
+    follows-step view core place (state_written block false t.state)
+    (block_written core place block (Some left)).bytes
+    (block_written core place block (Some left)).loose follows
+    (out-of-flush core place block flush) (write-same block false t.state)
+    (comes core (events.BlockWrite place block (Some left)) follows.reached h)
+
+pub follows-flush : {S D B : Type 0} (view : TrackerView S D B) (core : Core) (place block : ℕ)
+    (ok : Bool) → Follows view core → may core (events.Flush place block ok) ≡ true →
+    Follows view (after core (events.Flush place block ok))
+follows-flush view core place block true follows h =
+    let t = track core.tracks place in
+    let flush = (both (is_in_phase core.crashed (events.Flush place block true))
+    (may_flush core place block) h).1 in
+    follows-step view core place (state_flushed block t.state) core.bytes
+    (flushed core place block true).loose follows (out-of-flush core place block flush)
+    (flush-same block t.state) (comes core (events.Flush place block true) follows.reached h)
+follows-flush view core place block false follows h = follows

@@ -19,6 +19,7 @@ mod ending;
 mod find;
 mod finish;
 mod in_doubt;
+mod laws;
 mod lending;
 mod mark;
 mod new;

@@ -1,13 +1,13 @@
 //! Trackers are made.
 
-ghost use Rattle.std.specs.Prelude.{◌≡◌, ◌<◌, IfOk, OnOk, get_or, replicate, vec_capacity, vec_len};
+ghost use Rattle.std.specs.Prelude.{◌≡◌, ◌<◌, IfOk, OnOk, replicate, vec_capacity, vec_len};
 ghost use Rattle.cfs_file.specs.declared.sizes.TheConstants.{FILE_BLOCKS};
 ghost use Rattle.cfs_core.specs.declared.inode_core.Core.{Core};
-ghost use Rattle.cfs_core.specs.Fresh.{IsEmpty, IsFresh};
+ghost use Rattle.cfs_core.specs.Fresh.{IsEmpty};
 ghost use Rattle.cfs_tracker.specs.declared.cell.Cell.TheVariants as kinds;
-ghost use Rattle.cfs_tracker.specs.Cells.{cell_at, with_cell};
+ghost use Rattle.cfs_tracker.specs.Cells.{with_cell};
 ghost use Rattle.cfs_tracker.specs.Follows.{Follows};
-ghost use Rattle.cfs_tracker.specs.New.{IsLoaded, stored_view};
+ghost use Rattle.cfs_tracker.specs.New.{stored_view};
 ghost use Rattle.cfs_tracker.specs.View.{KeepsRoom, view_of};
 
 use crate::{Cell, Tracker};
@@ -60,12 +60,6 @@ impl<S: Drop, D: Drop, B: Drop> Tracker<S, D, B> {
     {
         self.cells[block as usize] = Cell::Home(home);
     }
-
-    /// A tracker that has the stored file and the blocks of a fresh core follows it.
-    pub fn follows_fresh(&self)
-        ensures { (core : Core) → IsFresh core → IsLoaded (view_of self.now) core →
-            Follows (view_of self.now) core }
-    {}
 
     /// Takes the memory for one change and one read more. No call but this one and those that make
     /// a tracker takes any. Without memory there is no less room than before.
