@@ -32,7 +32,7 @@ use Rattle.cfs_tracker.specs.declared.cell.Cell.TheVariants as kinds
 use Rattle.cfs_tracker.specs.declared.in_doubt.InDoubt.{InDoubt}
 use Rattle.cfs_tracker.specs.declared.pending.Pending.{Pending}
 use Rattle.cfs_tracker.specs.declared.reading.Reading.{Reading}
-use Rattle.cfs_tracker.specs.View.{TrackerView, entry_at, is_at, read_at}
+use Rattle.cfs_tracker.specs.View.{TrackerView, entry_at, entry_place, is_at, read_at}
 use Rattle.cfs_tracker.specs.Admit.{MayAdmit, admitted, doubted, first_unmapped, is_mapped, long_after, pending}
 use Rattle.cfs_tracker.specs.Cells.{cell_at}
 use Rattle.cfs_tracker.specs.Follows.{CellStands, DoubtStands, Follows, flag_if}
@@ -144,6 +144,7 @@ follows-doubted view core request entry grant slots admits follows next same =
         sure = follows.sure;
         entries = follows.entries;
         rise = follows.rise;
+        reads_rise = follows.reads_rise;
         syncs = follows.syncs;
         many = follows.many;
         cells = follows.cells;
@@ -195,8 +196,9 @@ follows-admitted {S} view core request entry grant slots admits follows next sam
               gate = refl;
               idle = λ applied block. refl;
             });
-            rise = rise-push 0 view.entries own (omega arith)
+            rise = rise-push entry_place 0 view.entries own (omega arith)
                 (λ x is. omega (arith, within-count view core x.place x follows is)) follows.rise;
+            reads_rise = follows.reads_rise;
             sync = λ read is.
                 (let clash : None ≡ Some read = sym none.1 ∙ is in cc);
             long_is = rw same (long-is (file core) request

@@ -48,6 +48,7 @@ follows-cell {S} {D} {B} view core block cell tags follows reached less own besi
   sure = follows.sure;
   entries = follows.entries;
   rise = follows.rise;
+  reads_rise = follows.reads_rise;
   syncs = follows.syncs;
   many = length-set view.cells block cell ∙ follows.many;
   cells = λ other low. elim (same_or_not other block) [

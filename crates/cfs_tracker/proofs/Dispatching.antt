@@ -558,6 +558,7 @@ follows-dispatched {S} {D} {B} view core place first second is are follows =
       });
       unread = unread;
       rise = rise-with 0 view.entries place (doing now) (λ e. refl) follows.rise;
+      reads_rise = follows.reads_rise;
       many = lend-length (lend place first view.cells) place second
           ∙ (lend-length view.cells place first ∙ follows.many);
       cells_stand = lend-stands (lend place first view.cells) core.tags place second

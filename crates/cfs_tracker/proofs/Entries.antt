@@ -7,7 +7,7 @@ use Rattle.std.proofs.lemmas.Bool.Decides.{nat_tests}
 use Rattle.cfs_core.proofs.Legal.{neither}
 use Rattle.cfs_tracker.specs.declared.doing.Doing.{Doing}
 use Rattle.cfs_tracker.specs.declared.pending.Pending.{Pending}
-use Rattle.cfs_tracker.specs.View.{doing, entry_at, is_at, with_entry, without}
+use Rattle.cfs_tracker.specs.View.{doing, entry_at, entry_place, is_at, with_entry, without}
 use Rattle.cfs_tracker.specs.Follows.{Rise}
 
 -- ---- where it stands
@@ -191,52 +191,88 @@ found-place es place e h =
 
 -- ---- the order of the places
 
-pub rise-from : {S : Type 0} (low less : ℕ) (es : List (Pending S)) → less ≤ low → Rise low es →
-    Rise less es
-rise-from low less [] le rise = tt
-rise-from low less (x ∷ xs) le rise = (omega (arith, rise.0), rise.1)
+pub rise-from : {X : Type 0} (at : X → ℕ) (low less : ℕ) (xs : List X) → less ≤ low →
+    Rise at low xs → Rise at less xs
+rise-from at low less [] le rise = tt
+rise-from at low less (x ∷ xs) le rise = (omega (arith, rise.0), rise.1)
+
+pub rise-filter : {X : Type 0} (at : X → ℕ) (keep : X → Bool) (low : ℕ) (xs : List X) →
+    Rise at low xs → Rise at low (filter keep xs)
+rise-filter at keep low [] rise = tt
+rise-filter at keep low (x ∷ xs) rise = elim (cases_Bool (keep x)) [
+  | inl is ↦ rw is (rise.0, rise-filter at keep (at x) xs rise.1)
+  | inr gone ↦
+      rw gone (rise-filter at keep low xs
+      (rise-from at (at x) low xs (omega (arith, rise.0)) rise.1))
+]
 
 pub rise-with : {S : Type 0} (low : ℕ) (es : List (Pending S)) (place : ℕ)
     (change : Pending S → Pending S) → ((e : Pending S) → (change e).place ≡ e.place) →
-    Rise low es → Rise low (with_entry place change es)
+    Rise entry_place low es → Rise entry_place low (with_entry place change es)
 rise-with low [] place change keeps rise = tt
 rise-with low (x ∷ xs) place change keeps rise = elim (cases_Bool (is_at place x)) [
   | inl own ↦
       let first : low < (change x).place = rw (keeps x) rise.0 in
-      let rest : Rise (change x).place xs = rw (keeps x) rise.1 in
+      let rest : Rise entry_place (change x).place xs = rw (keeps x) rise.1 in
       rw own (first, rest)
   | inr beside ↦ rw beside (rise.0, rise-with x.place xs place change keeps rise.1)
 ]
 
 pub rise-without : {S : Type 0} (low : ℕ) (es : List (Pending S)) (place : ℕ) →
-    Rise low es → Rise low (without place es)
-rise-without low [] place rise = tt
-rise-without low (x ∷ xs) place rise = elim (cases_Bool (is_at place x)) [
-  | inl own ↦
-      rw own (rise-without low xs place (rise-from x.place low xs (omega (arith, rise.0)) rise.1))
-  | inr beside ↦ rw beside (rise.0, rise-without x.place xs place rise.1)
-]
+    Rise entry_place low es → Rise entry_place low (without place es)
+rise-without low es place rise = rise-filter entry_place (λ e. not (is_at place e)) low es rise
 
-later : {S : Type 0} (x : Pending S) (xs : List (Pending S)) (e : Pending S) →
-    x.place < e.place →
-    ((y : Pending S) → entry_at (x ∷ xs) y.place ≡ Some y → y.place < e.place) →
-    (y : Pending S) → entry_at xs y.place ≡ Some y → y.place < e.place
-later x xs e first all y is = elim (cases_Bool (is_at y.place x)) [
+later : {X : Type 0} (at : X → ℕ) (x : X) (xs : List X) (last : X) → at x < at last →
+    ((y : X) → find (λ z. at z == at y) (x ∷ xs) ≡ Some y → at y < at last) →
+    (y : X) → find (λ z. at z == at y) xs ≡ Some y → at y < at last
+later at x xs last first all y is = elim (cases_Bool (at x == at y)) [
   | inl same ↦
-      let eq : x.place ≡ y.place = grind (arith, nat_tests) in
-      rw (sym eq) first
+      let eq : at x ≡ at y = grind (arith, nat_tests) in
+      omega arith
   | inr other ↦ all y (rw other is)
 ]
 
 -- a new one behind all others
-pub rise-push : {S : Type 0} (low : ℕ) (es : List (Pending S)) (e : Pending S) → low < e.place →
-    ((x : Pending S) → entry_at es x.place ≡ Some x → x.place < e.place) → Rise low es →
-    Rise low (es ++ e ∷ [])
-rise-push low [] e less all rise = (less, tt)
-rise-push low (x ∷ xs) e less all rise =
-    let own : is_at x.place x ≡ true = grind (arith, nat_tests) in
-    let it : entry_at (x ∷ xs) x.place ≡ Some x = rw own refl in
-    (rise.0, rise-push x.place xs e (all x it) (later x xs e (all x it) all) rise.1)
+pub rise-push : {X : Type 0} (at : X → ℕ) (low : ℕ) (xs : List X) (last : X) → low < at last →
+    ((y : X) → find (λ z. at z == at y) xs ≡ Some y → at y < at last) → Rise at low xs →
+    Rise at low (xs ++ last ∷ [])
+rise-push at low [] last less all rise = (less, tt)
+rise-push at low (x ∷ xs) last less all rise =
+    let own : (at x == at x) ≡ true = grind (arith, nat_tests) in
+    let it : find (λ z. at z == at x) (x ∷ xs) ≡ Some x = rw own refl in
+    (rise.0, rise-push at (at x) xs last (all x it) (later at x xs last (all x it) all) rise.1)
+
+above-all : {X : Type 0} (at : X → ℕ) (low : ℕ) (xs : List X) (y : X) (k : ℕ) →
+    Rise at low xs → slice_get xs k ≡ Some y → low < at y
+above-all at low [] y k rise there = cc
+above-all at low (x ∷ xs) y zero rise there =
+    let same : x ≡ y = (let somes : Some x ≡ Some y = there in cc) in
+    let e : at x ≡ at y = ap at same in
+    omega (arith, rise.0)
+above-all at low (x ∷ xs) y (suc k) rise there =
+    omega (arith, rise.0, above-all at (at x) xs y k rise.1 there)
+
+-- what is found first of a rising list has the least place of all that pass
+pub least : {X : Type 0} (at : X → ℕ) (test : X → Bool) (low : ℕ) (xs : List X) (x y : X)
+    (k : ℕ) → Rise at low xs → find test xs ≡ Some x → slice_get xs k ≡ Some y →
+    test y ≡ true → at x ≤ at y
+least at test low [] x y k rise is there passes = cc
+least at test low (z ∷ zs) x y zero rise is there passes =
+    let same : z ≡ y = (let somes : Some z ≡ Some y = there in cc) in
+    let own : test z ≡ true = rw same passes in
+    let first : find test (z ∷ zs) ≡ Some z = rw own refl in
+    let it : z ≡ x = (let somes : Some z ≡ Some x = sym first ∙ is in cc) in
+    (let e : at x ≡ at y = ap at (sym it ∙ same) in omega arith)
+least at test low (z ∷ zs) x y (suc k) rise is there passes = elim (cases_Bool (test z)) [
+  | inl own ↦
+      let first : find test (z ∷ zs) ≡ Some z = rw own refl in
+      let it : z ≡ x = (let somes : Some z ≡ Some x = sym first ∙ is in cc) in
+      let above = above-all at (at z) zs y k rise.1 there in
+      (let e : at z ≡ at x = ap at it in omega (arith, above))
+  | inr other ↦
+      let rest : find test (z ∷ zs) ≡ find test zs = rw other refl in
+      least at test (at z) zs x y k rise.1 (sym rest ∙ is) there passes
+]
 
 -- ---- tests of a whole list
 

@@ -37,7 +37,7 @@ use Rattle.cfs_tracker.specs.declared.doing.Doing.{Doing}
 use Rattle.cfs_tracker.specs.declared.doing.Doing.TheVariants as doings
 use Rattle.cfs_tracker.specs.declared.pending.Pending.{Pending}
 use Rattle.cfs_tracker.specs.declared.tile.Tile.{Tile}
-use Rattle.cfs_tracker.specs.View.{TrackerView, doing, entry_at, read_at, with_entry, without}
+use Rattle.cfs_tracker.specs.View.{TrackerView, doing, entry_at, entry_place, read_at, with_entry, without}
 use Rattle.cfs_tracker.specs.Cells.{cell_at}
 use Rattle.cfs_tracker.specs.Dispatch.{next_cell}
 use Rattle.cfs_tracker.specs.Finish.{IsOut, applied, applied_at, applied_entry, applied_in, as_far, blocks_in, blocks_out, done_with, home, is_last, is_last_entry, is_last_of, last_number, more, more_entry, number_of, put_back, retired, size_after, size_unsure, span_in}
@@ -174,7 +174,7 @@ pub record Ends {S D B : Type 0} (view : TrackerView S D B) (place : ℕ) (t : T
     (entries : List (Pending S)) : Type 0 where
   pub beside : (q : ℕ) → (q ≡ place → ⊥) → entry_at entries q ≡ entry_at view.entries q
   pub here : StandsAt (entry_at entries place) None t
-  pub rise : Rise 0 entries
+  pub rise : Rise entry_place 0 entries
   pub free : (block : ℕ) → has_block t.state block ≡ true → ⊥
 
 ends-put : {S D B : Type 0} (view : TrackerView S D B) (core : Core) (place : ℕ)
@@ -196,6 +196,7 @@ ends-put {S} {D} {B} view core place first second t entries is follows end =
       here = stands-by refl unread refl end.here;
       unread = unread;
       rise = end.rise;
+      reads_rise = follows.reads_rise;
       many = home-length second (home first view.cells)
           ∙ (home-length first view.cells ∙ follows.many);
       cells_stand = home-stands second (home first view.cells) core.tags
@@ -320,7 +321,7 @@ again : {S D B : Type 0} (view : TrackerView S D B) (place : ℕ) (t : Track)
     (entry : Pending S) (change : Pending S → Pending S) →
     ((e : Pending S) → (change e).place ≡ e.place) →
     entry_at view.entries place ≡ Some entry → t.state ≡ states.Waiting →
-    IsTrack (change entry) t → Rise 0 view.entries →
+    IsTrack (change entry) t → Rise entry_place 0 view.entries →
     Ends view place t (with_entry place change view.entries)
 again view place t entry change keeps there waits is rise = record {
   beside = λ q apart. at-with view.entries place q change keeps apart;

@@ -160,6 +160,7 @@ follows-step view core place new bytes loose follows out same reached = record {
         stands-by refl refl (track_beside core.tracks place q (record (track core.tracks place) { state = new }) inside.0 apart) (follows.entries q)
   ];
   rise = follows.rise;
+  reads_rise = follows.reads_rise;
   syncs = follows.syncs;
   many = follows.many;
   cells = follows.cells;

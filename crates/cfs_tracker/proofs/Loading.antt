@@ -45,6 +45,7 @@ follows-fresh {S} {D} view core fresh loaded = record {
   sure = λ sure. fresh.sizes;
   entries = λ q. rw (loaded.entries, loaded.reads, fresh.tracks) (no-track q);
   rise = rw loaded.entries tt;
+  reads_rise = rw loaded.reads tt;
   syncs = λ q read is. (let none : read_at view.reads q ≡ None = rw loaded.reads refl in cc);
   many = loaded.many;
   cells = loaded.cells;

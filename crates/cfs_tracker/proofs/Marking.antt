@@ -233,6 +233,7 @@ follows-marked {S} view core place by slots kept h follows =
       here = stands-by there unread refl (marked-stands is.entry t slots kept is.marks own);
       unread = unread;
       rise = rise-with 0 view.entries place (doing now) (λ e. refl) follows.rise;
+      reads_rise = follows.reads_rise;
       many = follows.many;
       cells_stand = follows.cells;
       lent = λ block has. absurd (marked-free t kept block waits has);

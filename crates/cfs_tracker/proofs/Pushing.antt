@@ -25,7 +25,7 @@ use Rattle.cfs_tracker.specs.declared.doing.Doing.{Doing}
 use Rattle.cfs_tracker.specs.declared.doing.Doing.TheVariants as doings
 use Rattle.cfs_tracker.specs.declared.pending.Pending.{Pending}
 use Rattle.cfs_tracker.specs.declared.reading.Reading.{Reading}
-use Rattle.cfs_tracker.specs.View.{TrackerView, entry_at, read_at}
+use Rattle.cfs_tracker.specs.View.{TrackerView, entry_at, entry_place, read_at, reading_place}
 use Rattle.cfs_tracker.specs.Cells.{cell_at}
 use Rattle.cfs_tracker.specs.Follows.{Follows, IsDoing, Rise, StandsAt}
 use Rattle.cfs_tracker.proofs.Putting.{stands-by}
@@ -150,6 +150,13 @@ within-count view core q e follows is = elim (cases_lt view.count q) [
   | inr le ↦ le
 ]
 
+pub read-within : {S D B : Type 0} (view : TrackerView S D B) (core : Core) (q : ℕ)
+    (r : Reading) → Follows view core → read_at view.reads q ≡ Some r → q ≤ view.count
+read-within view core q r follows is = elim (cases_lt view.count q) [
+  | inl past ↦ (let none = (none-past view core q follows past).1 in cc)
+  | inr le ↦ le
+]
+
 -- ---- one request is logged
 
 pub record Pushes {S D B : Type 0} (view : TrackerView S D B) (core : Core) (entry : Entry)
@@ -158,7 +165,8 @@ pub record Pushes {S D B : Type 0} (view : TrackerView S D B) (core : Core) (ent
       entry_at entries q ≡ entry_at view.entries q
   pub reads_beside : (q : ℕ) → (q ≡ view.count + 1 → ⊥) → read_at reads q ≡ read_at view.reads q
   pub here : StandsAt (entry_at entries (view.count + 1)) (read_at reads (view.count + 1)) t
-  pub rise : Rise 0 entries
+  pub rise : Rise entry_place 0 entries
+  pub reads_rise : Rise reading_place 0 reads
   pub sync : (read : Reading) → read_at reads (view.count + 1) ≡ Some read →
       read.is_sync ≡ is_sync_request entry.request
   pub long_is : length (effect (file core) entry.request) ≡ long
@@ -193,6 +201,7 @@ follows-push {S} {D} {B} view core entry t entries reads long follows reached pu
         (track-beside core.tracks t q (λ e. apart (omega (arith, tracks)))) (follows.entries q)
   ];
   rise = pushes.rise;
+  reads_rise = pushes.reads_rise;
   syncs = λ q read is. elim (same_or_not q (view.count + 1)) [
     | inl same ↦
         pushes.sync read (subst (λ (n : ℕ). read_at reads n ≡ Some read) same is)

@@ -17,7 +17,7 @@ use Rattle.cfs_tracker.specs.declared.cell.Cell.TheVariants as kinds
 use Rattle.cfs_tracker.specs.declared.doing.Doing.{Doing}
 use Rattle.cfs_tracker.specs.declared.pending.Pending.{Pending}
 use Rattle.cfs_tracker.specs.declared.reading.Reading.{Reading}
-use Rattle.cfs_tracker.specs.View.{TrackerView, doing, entry_at, read_at, with_entry, without}
+use Rattle.cfs_tracker.specs.View.{TrackerView, doing, entry_at, entry_place, read_at, reading_place, with_entry, without}
 use Rattle.cfs_tracker.specs.Cells.{cell_at}
 use Rattle.cfs_tracker.specs.Follows.{CellStands, Follows, IsDoing, IsTrack, Rise, StandsAt, gate_for, is_dead}
 use Rattle.cfs_tracker.proofs.Entries.{at-with, here-with, rise-with}
@@ -95,6 +95,7 @@ follows-redo {S} view core place now follows keeps = record {
         (follows.entries q)
   ];
   rise = rise-with 0 view.entries place (doing now) (λ e. refl) follows.rise;
+  reads_rise = follows.reads_rise;
   syncs = follows.syncs;
   many = follows.many;
   cells = follows.cells;
@@ -126,7 +127,8 @@ pub record Puts {S D B : Type 0} (view : TrackerView S D B) (core : Core) (place
   pub reads_beside : (q : ℕ) → (q ≡ place → ⊥) → read_at reads q ≡ read_at view.reads q
   pub here : StandsAt (entry_at entries place) (read_at reads place) t
   pub unread : read_at reads place ≡ None
-  pub rise : Rise 0 entries
+  pub rise : Rise entry_place 0 entries
+  pub reads_rise : Rise reading_place 0 reads
   pub many : length cells ≡ FILE_BLOCKS
   pub cells_stand : (block : ℕ) → block < FILE_BLOCKS →
       CellStands (cell_at cells block) (get_or core.tags block flags.Off)
@@ -161,6 +163,7 @@ follows-put {S} {D} {B} view core place t entries reads cells size sizes stored 
         (track_beside core.tracks place q t puts.some apart) (follows.entries q)
   ];
   rise = puts.rise;
+  reads_rise = puts.reads_rise;
   syncs = λ q read is. elim (same_or_not q place) [
     | inl same ↦
         let none : read_at reads q ≡ None = subst (λ (n : ℕ). read_at reads n ≡ None) (sym same) puts.unread in

@@ -24,14 +24,14 @@ use Rattle.cfs_core.proofs.Legal.{and_all, neither}
 use Rattle.cfs_core_laws.specs.Reached.IsReached.{comes}
 use Rattle.cfs_tracker.specs.declared.pending.Pending.{Pending}
 use Rattle.cfs_tracker.specs.declared.reading.Reading.{Reading}
-use Rattle.cfs_tracker.specs.View.{TrackerView, entry_at, is_read_at, read_at}
+use Rattle.cfs_tracker.specs.View.{TrackerView, entry_at, is_read_at, read_at, reading_place}
 use Rattle.cfs_tracker.specs.Follows.{Follows, IsUnserved, StandsAt}
 use Rattle.cfs_tracker.specs.Reads.{blocker_of, blocker_of_read, has_needed, is_before, is_live_doing, place_of, read_admitted, read_ended, reading, without_read}
-use Rattle.cfs_tracker.proofs.Entries.{find-beside, find-gone, found-not, found-place, found-test}
+use Rattle.cfs_tracker.proofs.Entries.{find-beside, find-gone, found-not, found-place, found-test, rise-filter, rise-push}
 use Rattle.cfs_tracker.proofs.Earlier.{before-none, live-entry, needed-free}
 use Rattle.cfs_tracker.proofs.Tracks.{in-log, no-block}
 use Rattle.cfs_tracker.proofs.Putting.{follows-put, stands-by}
-use Rattle.cfs_tracker.proofs.Pushing.{follows-push, none-past}
+use Rattle.cfs_tracker.proofs.Pushing.{follows-push, none-past, read-within}
 
 -- ---- the read of a place
 
@@ -92,6 +92,8 @@ ended view core place read answer follows is may_be =
       here = stands-by is.alone (find-gone (is_read_at place) view.reads) refl refl;
       unread = find-gone (is_read_at place) view.reads;
       rise = follows.rise;
+      reads_rise = rise-filter reading_place (λ r. not (is_read_at place r)) 0 view.reads
+          follows.reads_rise;
       many = follows.many;
       cells_stand = follows.cells;
       lent = λ block has. absurd (no-block states.Closed block refl has);
@@ -246,6 +248,9 @@ follows-read view core request entry query follows next same =
             here = stands-by none.0 (last-at view.reads (reading request view) none.1) refl
                 (record { state = refl; span = span_is });
             rise = follows.rise;
+            reads_rise = rise-push reading_place 0 view.reads (reading request view) (omega arith)
+                (λ r there. omega (arith, read-within view core r.place r follows there))
+                follows.reads_rise;
             sync = λ read is.
                 let same_read : Some (reading request view) ≡ Some read =
                 sym (last-at view.reads (reading request view) none.1) ∙ is in

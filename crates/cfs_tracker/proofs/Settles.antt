@@ -34,6 +34,7 @@ follows-settled view core h follows =
         sure = follows.sure;
         entries = follows.entries;
         rise = follows.rise;
+        reads_rise = follows.reads_rise;
         syncs = follows.syncs;
         many = follows.many;
         cells = follows.cells;

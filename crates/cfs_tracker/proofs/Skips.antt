@@ -111,6 +111,7 @@ follows-skipped view core place h follows =
             here = stands-by (here-without view.entries place) unread refl refl;
             unread = unread;
             rise = rise-without 0 view.entries place follows.rise;
+            reads_rise = follows.reads_rise;
             many = follows.many;
             cells_stand = follows.cells;
             lent = λ block has. absurd (no-block states.Closed block refl has);

@@ -22,7 +22,7 @@ use Rattle.cfs_tracker.specs.declared.in_doubt.InDoubt.{InDoubt}
 use Rattle.cfs_tracker.specs.declared.pending.Pending.{Pending}
 use Rattle.cfs_tracker.specs.declared.reading.Reading.{Reading}
 use Rattle.cfs_tracker.specs.Cells.{cell_at}
-use Rattle.cfs_tracker.specs.View.{TrackerView, entry_at, read_at}
+use Rattle.cfs_tracker.specs.View.{TrackerView, entry_at, entry_place, read_at, reading_place}
 
 abbrev pub block_of : Option Lease → Option ℕ
 block_of None = None
@@ -97,10 +97,10 @@ DoubtStands (Some mine) (Some doubt) = IsDoubt mine doubt
 DoubtStands None (Some doubt) = ⊥
 DoubtStands (Some mine) None = ⊥
 
--- each entry has a greater place than the one before
-abbrev pub Rise : {S : Type 0} → ℕ → List (Pending S) → Type 0
-Rise low [] = Unit {0}
-Rise low (entry ∷ entries) = (low < entry.place) × Rise entry.place entries
+-- each has a greater place than the one before
+abbrev pub Rise : {X : Type 0} → (X → ℕ) → ℕ → List X → Type 0
+Rise at low [] = Unit {0}
+Rise at low (x ∷ xs) = (low < at x) × Rise at (at x) xs
 
 pub record Follows {S D B : Type 0} (view : TrackerView S D B) (core : Core) : Type 0 where
   pub reached : IsReached core
@@ -111,7 +111,8 @@ pub record Follows {S D B : Type 0} (view : TrackerView S D B) (core : Core) : T
   pub sure : view.is_sure ≡ true → core.sizes ≡ []
   pub entries : (place : ℕ) →
       StandsAt (entry_at view.entries place) (read_at view.reads place) (track core.tracks place)
-  pub rise : Rise 0 view.entries
+  pub rise : Rise entry_place 0 view.entries
+  pub reads_rise : Rise reading_place 0 view.reads
   pub syncs : (place : ℕ) (read : Reading) → read_at view.reads place ≡ Some read →
       read.is_sync ≡ is_sync_at core.log place
   pub many : length view.cells ≡ FILE_BLOCKS

@@ -34,6 +34,12 @@ view_of tracker = record {
 
 -- ---- what is pending, by place
 
+abbrev pub entry_place : {S : Type 0} → Pending S → ℕ
+entry_place entry = entry.place
+
+abbrev pub reading_place : Reading → ℕ
+reading_place read = read.place
+
 abbrev pub is_at : {S : Type 0} → ℕ → Pending S → Bool
 is_at place entry = entry.place == place
 
