@@ -15,3 +15,4 @@ pub mod Marking
 pub mod Finishing
 pub mod Trimming
 pub mod JobSteps
+pub mod Leasts

@@ -11,3 +11,4 @@ pub mod Mark
 pub mod Finish
 pub mod Trim
 pub mod Work
+pub mod Least

@@ -7,6 +7,7 @@ ghost use Rattle.cfs_core.specs.Fresh.{IsFresh};
 ghost use Rattle.cfs_core.specs.May.{may};
 ghost use Rattle.cfs_core.specs.After.{after};
 ghost use Rattle.cfs_tracker.specs.Follows.{Follows};
+ghost use Rattle.cfs_tracker.specs.Least.{NoEntryIsLess, NoReadIsLess, NoneIsLessForReads};
 ghost use Rattle.cfs_tracker.specs.New.{IsLoaded};
 ghost use Rattle.cfs_tracker.specs.View.{view_of};
 
@@ -29,5 +30,14 @@ impl<S, D, B> Tracker<S, D, B> {
         ensures flushes { (core : Core) (place block : ℕ) (ok : Bool) →
             Follows (view_of self.now) core → may core (events.Flush place block ok) ≡ true →
             Follows (view_of self.now) (after core (events.Flush place block ok)) }
+    {}
+    /// What `step` and `read_blocker` name first among what stands in the way has the least place.
+    pub fn first_are_least(&self)
+        ensures entries { (core : Core) → Follows (view_of self.now) core →
+            NoEntryIsLess (view_of self.now) }
+        ensures reads { (core : Core) → Follows (view_of self.now) core →
+            NoReadIsLess (view_of self.now) }
+        ensures for_reads { (core : Core) → Follows (view_of self.now) core →
+            NoneIsLessForReads (view_of self.now) }
     {}
 }
