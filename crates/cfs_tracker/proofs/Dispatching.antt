@@ -203,6 +203,7 @@ blocks-of view place first second is still = record {
   where
     one : (block : ℕ) → first ≡ Some block → is_mapped (cell_at view.cells block) ≡ true
     one block own = first-mapped view.cells is.entry block (is.first_is ∙ own)
+
     two : (block : ℕ) → second ≡ Some block → is_mapped (cell_at view.cells block) ≡ true
     two block own =
         (second-mapped view.cells is.entry.span first block (is.second_is ∙ own)).3
@@ -469,7 +470,7 @@ held-by first second block has =
     ]
 
 lent-now : {S D B : Type 0} (view : TrackerView S D B) (place : ℕ) (first second : Option ℕ)
-    (block : ℕ) → AreBlocks view first second → 
+    (block : ℕ) → AreBlocks view first second →
     (first ≡ Some block) ⊎ (second ≡ Some block) →
     cell_at (lend place second (lend place first view.cells)) block ≡ kinds.Lent place
 lent-now view place first second block are (inl one) =
@@ -479,8 +480,11 @@ lent-now view place first second block are (inl one) =
     (mapped-less view.cells block (are.first_mapped block one))
 lent-now view place first second block are (inr two) =
     lend-here (lend place first view.cells) place second block two
-    (omega (arith, lend-length view.cells place first,
-    mapped-less view.cells block (are.second_mapped block two)))
+    (omega (
+      arith,
+      lend-length view.cells place first,
+      mapped-less view.cells block (are.second_mapped block two),
+    ))
 
 lent-else : {S D B : Type 0} (view : TrackerView S D B) (place q : ℕ) (first second : Option ℕ)
     (block : ℕ) → AreBlocks view first second → cell_at view.cells block ≡ kinds.Lent q →
@@ -519,60 +523,67 @@ follows-dispatched {S} {D} {B} view core place first second is are follows =
     (second_cell view.cells entry.span (first_cell view.cells entry))) is.first_is
     ∙ ap (λ (o : Option ℕ). job_with first o) second_from) in
     let may_be : may core (events.Dispatch place) ≡ true =
-    rw (follows.up, waits, no-live view core place t.span follows no_entry,
-    no-read-ahead view core place t.span follows no_read, job,
-    untaken view core first follows are.first_kept,
-    untaken view core second follows are.second_kept) refl in
+    rw (
+      follows.up,
+      waits,
+      no-live view core place t.span follows no_entry,
+      no-read-ahead view core place t.span follows no_read,
+      job,
+      untaken view core first follows are.first_kept,
+      untaken view core second follows are.second_kept,
+    ) refl in
     let inside = in-log is_waiting refl core.tracks place waits in
     let now : Doing S = doings.Out first second in
     let unread : read_at view.reads place ≡ None = read-of view core place entry follows is.there in
     let there : entry_at (with_entry place (doing now) view.entries) place ≡ Some (doing now entry) =
     here-with view.entries place (doing now) (λ e. refl) ∙ ap (option_map (doing now)) is.there in
-    let reached = comes core (events.Dispatch place) follows.reached may_be in
-    (may_be, follows-put view core place (record t { state = states.Out (next_job core.tags t) })
-    (with_entry place (doing now) view.entries) view.reads
-    (lend place second (lend place first view.cells)) core.size core.sizes view.stored view.is_sure
-    follows reached follows.size follows.sure
-    (record {
-      some = inside.0;
-      within = inside.1;
-      entries_beside = λ q apart. at-with view.entries place q (doing now) (λ e. refl) apart;
-      reads_beside = λ q apart. refl;
-      here = stands-by there unread refl (record {
-        grant = own.grant;
-        span = own.span;
-        applied = own.applied;
-        done = own.done;
-        doing = record {
-          job = next_job core.tags t;
-          out = refl;
-          first_is = ap (λ (j : Job). block_of j.first) job ∙ block-back first;
-          second_is = ap (λ (j : Job). block_of j.second) job ∙ block-back second;
-        };
-        gate = own.gate
-            ∙ ap (λ (dead : Bool). gate_for dead entry.applied)
-            (waits-alive entry.doing is.waits);
-        idle = λ applied block.
-            ap (λ (j : Job). has_block (states.Out j) block) (job-is view core entry t follows own)
-            ∙ idle-job view.cells entry block applied;
-      });
-      unread = unread;
-      rise = rise-with 0 view.entries place (doing now) (λ e. refl) follows.rise;
-      reads_rise = follows.reads_rise;
-      many = lend-length (lend place first view.cells) place second
-          ∙ (lend-length view.cells place first ∙ follows.many);
-      cells_stand = lend-stands (lend place first view.cells) core.tags place second
-          (lend-length view.cells place first ∙ follows.many)
-          (lend-stands view.cells core.tags place first follows.many follows.cells
-          (λ block own_. mapped-tag view core block follows (are.first_mapped block own_)))
-          (λ block own_. mapped-tag view core block follows (are.second_mapped block own_));
-      lent = λ block has.
-          lent-now view place first second block are
-          (held-by first second block
-          (subst (λ (j : Job). has_block (states.Out j) block ≡ true) job has));
-      lent_beside = λ q block apart has.
-          lent-else view place q first second block are (follows.lent q block has);
-    }))
+    let reached = comes core (events.Dispatch place) follows.reached may_be in (
+      may_be,
+      follows-put view core place (record t { state = states.Out (next_job core.tags t) })
+          (with_entry place (doing now) view.entries) view.reads
+          (lend place second (lend place first view.cells)) core.size core.sizes view.stored view.is_sure
+          follows reached follows.size follows.sure
+          (record {
+            some = inside.0;
+            within = inside.1;
+            entries_beside = λ q apart. at-with view.entries place q (doing now) (λ e. refl) apart;
+            reads_beside = λ q apart. refl;
+            here = stands-by there unread refl (record {
+              grant = own.grant;
+              span = own.span;
+              applied = own.applied;
+              done = own.done;
+              doing = record {
+                job = next_job core.tags t;
+                out = refl;
+                first_is = ap (λ (j : Job). block_of j.first) job ∙ block-back first;
+                second_is = ap (λ (j : Job). block_of j.second) job ∙ block-back second;
+              };
+              gate = own.gate
+                  ∙ ap (λ (dead : Bool). gate_for dead entry.applied)
+                  (waits-alive entry.doing is.waits);
+              idle = λ applied block.
+                  ap (λ (j : Job). has_block (states.Out j) block) (job-is view core entry t follows own)
+                  ∙ idle-job view.cells entry block applied;
+            });
+            unread = unread;
+            rise = rise-with 0 view.entries place (doing now) (λ e. refl) follows.rise;
+            reads_rise = follows.reads_rise;
+            many = lend-length (lend place first view.cells) place second
+                ∙ (lend-length view.cells place first ∙ follows.many);
+            cells_stand = lend-stands (lend place first view.cells) core.tags place second
+                (lend-length view.cells place first ∙ follows.many)
+                (lend-stands view.cells core.tags place first follows.many follows.cells
+                (λ block own_. mapped-tag view core block follows (are.first_mapped block own_)))
+                (λ block own_. mapped-tag view core block follows (are.second_mapped block own_));
+            lent = λ block has.
+                lent-now view place first second block are
+                (held-by first second block
+                (subst (λ (j : Job). has_block (states.Out j) block ≡ true) job has));
+            lent_beside = λ q block apart has.
+                lent-else view place q first second block are (follows.lent q block has);
+          }),
+    )
 
 -- what `step` said of the two blocks, where no block is in the caller's hands
 pub ready-blocks : {S D B : Type 0} (view : TrackerView S D B) (place : ℕ)

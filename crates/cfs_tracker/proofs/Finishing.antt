@@ -298,18 +298,20 @@ follows-retired view core place first second h last follows through =
     let t = track core.tracks place in
     let may_be : may core (events.Finish place ends.Retired) ≡ true =
     may-retire core (whole follows.reached).kept (whole follows.reached).work follows.up place
-    through (last-track view core place first second is follows last) in
-    (may_be, follows-put view core place (retired_track t) (without place view.entries) view.reads
-    (home second (home first view.cells)) (sized core.size t.span) [] (size_after view place) true
-    follows (comes core (events.Finish place ends.Retired) follows.reached may_be)
-    (span-is view core place first second is follows) (λ sure. refl)
-    (ends-put view core place first second (retired_track t) (without place view.entries) is
-    follows (record {
-      beside = λ q apart. at-without view.entries place q apart;
-      here = stands-by (here-without view.entries place) refl refl refl;
-      rise = rise-without 0 view.entries place follows.rise;
-      free = λ block has. no-block states.Closed block refl has;
-    })))
+    through (last-track view core place first second is follows last) in (
+      may_be,
+      follows-put view core place (retired_track t) (without place view.entries) view.reads
+          (home second (home first view.cells)) (sized core.size t.span) [] (size_after view place) true
+          follows (comes core (events.Finish place ends.Retired) follows.reached may_be)
+          (span-is view core place first second is follows) (λ sure. refl)
+          (ends-put view core place first second (retired_track t) (without place view.entries) is
+          follows (record {
+            beside = λ q apart. at-without view.entries place q apart;
+            here = stands-by (here-without view.entries place) refl refl refl;
+            rise = rise-without 0 view.entries place follows.rise;
+            free = λ block has. no-block states.Closed block refl has;
+          })),
+    )
 
 -- ---- it waits again
 
@@ -352,23 +354,25 @@ follows-more view core place slots first second h follows through =
     let out = is-out view core place first second is follows in
     let may_be : may core (events.Finish place ends.More) ≡ true =
     rw (follows.up, out, through) refl in
-    let change = more_entry slots (number_of first) (number_of second) in
-    (may_be, follows-put view core place (more_to_come t)
-    (with_entry place change view.entries) view.reads (home second (home first view.cells))
-    core.size core.sizes view.stored view.is_sure follows
-    (comes core (events.Finish place ends.More) follows.reached may_be) follows.size follows.sure
-    (ends-put view core place first second (more_to_come t) (with_entry place change view.entries)
-    is follows (again view place (more_to_come t) is.entry change (λ e. refl) is.there refl
-    (record {
-      grant = own.grant;
-      span = own.span;
-      applied = own.applied;
-      done = done-same t.done t.state (number_of first) (number_of second) job
-          ∙ ap (λ (d : Option ℕ). last_number d (number_of first) (number_of second)) own.done;
-      doing = refl;
-      gate = out-alive is.entry t (number_of first) (number_of second) own is.out;
-      idle = λ applied block. refl;
-    }) follows.rise)))
+    let change = more_entry slots (number_of first) (number_of second) in (
+      may_be,
+      follows-put view core place (more_to_come t)
+          (with_entry place change view.entries) view.reads (home second (home first view.cells))
+          core.size core.sizes view.stored view.is_sure follows
+          (comes core (events.Finish place ends.More) follows.reached may_be) follows.size follows.sure
+          (ends-put view core place first second (more_to_come t) (with_entry place change view.entries)
+          is follows (again view place (more_to_come t) is.entry change (λ e. refl) is.there refl
+          (record {
+            grant = own.grant;
+            span = own.span;
+            applied = own.applied;
+            done = done-same t.done t.state (number_of first) (number_of second) job
+                ∙ ap (λ (d : Option ℕ). last_number d (number_of first) (number_of second)) own.done;
+            doing = refl;
+            gate = out-alive is.entry t (number_of first) (number_of second) own is.out;
+            idle = λ applied block. refl;
+          }) follows.rise)),
+    )
 
 -- ---- it ends as far as it was
 
@@ -383,6 +387,7 @@ idle-through entry t first second is job applied =
         ((block : ℕ) → is_lease lease block ≡ true → ⊥) → lease ≡ None
     no-lease None none = refl
     no-lease (Some lease) none = absurd (none lease.block (grind (arith, nat_tests)))
+
     done-both : (one two : Option Lease) →
         ((block : ℕ) → (is_lease one block || is_lease two block) ≡ false) →
         (is_done one && is_done two) ≡ true
@@ -459,13 +464,15 @@ follows-back {S} view core place slots first second h follows =
     let may_be : may core (events.Finish place end) ≡ true = rw (follows.up, out) well in
     let t = back_track (track core.tracks place) (gate_for false (applied_at view place))
     (applied_at view place) in
-    let now : Doing S = doings.Waiting slots in
-    (may_be, follows-put view core place t (with_entry place (doing now) view.entries) view.reads
-    (home second (home first view.cells)) core.size core.sizes view.stored view.is_sure follows
-    (comes core (events.Finish place end) follows.reached may_be) follows.size follows.sure
-    (ends-put view core place first second t (with_entry place (doing now) view.entries) is follows
-    (again view place t is.entry (doing now) (λ e. refl) is.there refl
-    (back-track-is view core place slots first second is follows) follows.rise)))
+    let now : Doing S = doings.Waiting slots in (
+      may_be,
+      follows-put view core place t (with_entry place (doing now) view.entries) view.reads
+          (home second (home first view.cells)) core.size core.sizes view.stored view.is_sure follows
+          (comes core (events.Finish place end) follows.reached may_be) follows.size follows.sure
+          (ends-put view core place first second t (with_entry place (doing now) view.entries) is follows
+          (again view place t is.entry (doing now) (λ e. refl) is.there refl
+          (back-track-is view core place slots first second is follows) follows.rise)),
+    )
 
 pub follows-unsure : {S D B : Type 0} (view : TrackerView S D B) (core : Core) (place : ℕ)
     (slots : S) (first second : Option (Tile B)) → IsOut view place first second →
@@ -481,15 +488,17 @@ follows-unsure {S} view core place slots first second h follows =
     let may_be : may core (events.Finish place end) ≡ true = rw (follows.up, out) well in
     let t = back_track (track core.tracks place) (gate_for false (applied_at view place))
     (applied_at view place) in
-    let now : Doing S = doings.Waiting slots in
-    (may_be, follows-put view core place t (with_entry place (doing now) view.entries) view.reads
-    (home second (home first view.cells)) (sized core.size (track core.tracks place).span)
-    (core.sizes ++ core.size ∷ []) (size_after view place) false follows
-    (comes core (events.Finish place end) follows.reached may_be)
-    (span-is view core place first second is follows) (λ sure. cc)
-    (ends-put view core place first second t (with_entry place (doing now) view.entries) is follows
-    (again view place t is.entry (doing now) (λ e. refl) is.there refl
-    (back-track-is view core place slots first second is follows) follows.rise)))
+    let now : Doing S = doings.Waiting slots in (
+      may_be,
+      follows-put view core place t (with_entry place (doing now) view.entries) view.reads
+          (home second (home first view.cells)) (sized core.size (track core.tracks place).span)
+          (core.sizes ++ core.size ∷ []) (size_after view place) false follows
+          (comes core (events.Finish place end) follows.reached may_be)
+          (span-is view core place first second is follows) (λ sure. cc)
+          (ends-put view core place first second t (with_entry place (doing now) view.entries) is follows
+          (again view place t is.entry (doing now) (λ e. refl) is.there refl
+          (back-track-is view core place slots first second is follows) follows.rise)),
+    )
 
 -- ---- it is applied
 
@@ -509,20 +518,22 @@ follows-applied view core place slots first second h last follows through =
     let may_be : may core (events.Finish place end) ≡ true =
     rw (follows.up, out, bytes) (or_right (track core.tracks place).applied true refl) in
     let t = back_track (track core.tracks place) flags.Unsure true in
-    let change = applied_entry slots in
-    (may_be, follows-put view core place t (with_entry place change view.entries) view.reads
-    (home second (home first view.cells)) (sized core.size (track core.tracks place).span) []
-    (size_after view place) true follows
-    (comes core (events.Finish place end) follows.reached may_be)
-    (span-is view core place first second is follows) (λ sure. refl)
-    (ends-put view core place first second t (with_entry place change view.entries) is follows
-    (again view place t is.entry change (λ e. refl) is.there refl
-    (record {
-      grant = own.grant;
-      span = own.span;
-      applied = refl;
-      done = own.done;
-      doing = refl;
-      gate = refl;
-      idle = λ applied_ block. refl;
-    }) follows.rise)))
+    let change = applied_entry slots in (
+      may_be,
+      follows-put view core place t (with_entry place change view.entries) view.reads
+          (home second (home first view.cells)) (sized core.size (track core.tracks place).span) []
+          (size_after view place) true follows
+          (comes core (events.Finish place end) follows.reached may_be)
+          (span-is view core place first second is follows) (λ sure. refl)
+          (ends-put view core place first second t (with_entry place change view.entries) is follows
+          (again view place t is.entry change (λ e. refl) is.there refl
+          (record {
+            grant = own.grant;
+            span = own.span;
+            applied = refl;
+            done = own.done;
+            doing = refl;
+            gate = refl;
+            idle = λ applied_ block. refl;
+          }) follows.rise)),
+    )

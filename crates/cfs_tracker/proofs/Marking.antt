@@ -220,22 +220,24 @@ follows-marked {S} view core place by slots kept h follows =
     let unread : read_at view.reads place ≡ None = read-of view core place is.entry follows is.here in
     let there : entry_at (with_entry place (doing now) view.entries) place
     ≡ Some (doing now is.entry) =
-    here-with view.entries place (doing now) (λ e. refl) ∙ ap (option_map (doing now)) is.here in
-    (may_be, follows-put view core place (marked_track t kept)
-    (with_entry place (doing now) view.entries) view.reads view.cells core.size core.sizes
-    view.stored view.is_sure follows
-    (comes core (events.Mark place by kept) follows.reached may_be) follows.size follows.sure
-    (record {
-      some = inside.0;
-      within = inside.1;
-      entries_beside = λ q apart. at-with view.entries place q (doing now) (λ e. refl) apart;
-      reads_beside = λ q apart. refl;
-      here = stands-by there unread refl (marked-stands is.entry t slots kept is.marks own);
-      unread = unread;
-      rise = rise-with 0 view.entries place (doing now) (λ e. refl) follows.rise;
-      reads_rise = follows.reads_rise;
-      many = follows.many;
-      cells_stand = follows.cells;
-      lent = λ block has. absurd (marked-free t kept block waits has);
-      lent_beside = λ q block apart has. follows.lent q block has;
-    }))
+    here-with view.entries place (doing now) (λ e. refl) ∙ ap (option_map (doing now)) is.here in (
+      may_be,
+      follows-put view core place (marked_track t kept)
+          (with_entry place (doing now) view.entries) view.reads view.cells core.size core.sizes
+          view.stored view.is_sure follows
+          (comes core (events.Mark place by kept) follows.reached may_be) follows.size follows.sure
+          (record {
+            some = inside.0;
+            within = inside.1;
+            entries_beside = λ q apart. at-with view.entries place q (doing now) (λ e. refl) apart;
+            reads_beside = λ q apart. refl;
+            here = stands-by there unread refl (marked-stands is.entry t slots kept is.marks own);
+            unread = unread;
+            rise = rise-with 0 view.entries place (doing now) (λ e. refl) follows.rise;
+            reads_rise = follows.reads_rise;
+            many = follows.many;
+            cells_stand = follows.cells;
+            lent = λ block has. absurd (marked-free t kept block waits has);
+            lent_beside = λ q block apart has. follows.lent q block has;
+          }),
+    )

@@ -126,9 +126,11 @@ follows-trimmed view core block left past moves follows =
     let flag : Flag = cond (is_none left) flags.Off flags.Unsure in
     let now : get_or (set core.tags block flag) block flags.Off ≡ flag =
     get_or-set_at core.tags block block flag flags.Off refl
-    (omega (arith, tags-count view core follows)) in
-    (may_be, follows-cell view core block (left_cell left) (set core.tags block flag) follows
-    (comes core (events.Trim block (is_none left)) follows.reached may_be) less
-    (moving-free (cell_at view.cells block) moves)
-    (λ other apart. get_or-set_other core.tags block other flag flags.Off apart)
-    (rw now (left-stands left)))
+    (omega (arith, tags-count view core follows)) in (
+      may_be,
+      follows-cell view core block (left_cell left) (set core.tags block flag) follows
+          (comes core (events.Trim block (is_none left)) follows.reached may_be) less
+          (moving-free (cell_at view.cells block) moves)
+          (λ other apart. get_or-set_other core.tags block other flag flags.Off apart)
+          (rw now (left-stands left)),
+    )

@@ -1,12 +1,12 @@
 //! A change takes a place, or is in doubt.
 
-ghost use Rattle.std.specs.Prelude.{◌≡◌, ◌+◌, ◌<◌, ◌^◌, false, true, nat_le, vec_capacity, vec_len};
+ghost use Rattle.std.specs.Prelude.{◌≡◌, ◌↔◌, ◌+◌, ◌<◌, ◌^◌, IsTrue, false, true, nat_le, vec_capacity, vec_len};
 ghost use Rattle.cfs_file.specs.declared.entry.Entry.{Entry};
 ghost use Rattle.cfs_file.specs.declared.sizes.TheConstants.{LONGEST_FILE};
 ghost use Rattle.cfs_file.specs.Span.{EndFits, span};
 ghost use Rattle.cfs_core.specs.declared.event.Event.TheVariants as events;
 ghost use Rattle.cfs_core.specs.declared.inode_core.Core.{Core};
-ghost use Rattle.cfs_core.specs.May.{may};
+ghost use Rattle.cfs_core.specs.May.{is_change, may};
 ghost use Rattle.cfs_core.specs.After.{after};
 ghost use Rattle.cfs_tracker.specs.Admit.{MayAdmit, admitted, doubted, first_unmapped, long_after, pending};
 ghost use Rattle.cfs_tracker.specs.Follows.{Follows};
@@ -14,7 +14,19 @@ ghost use Rattle.cfs_tracker.specs.View.{KeepsRoom, view_of};
 
 use crate::cells::first_unmapped;
 use crate::{Doing, InDoubt, Pending, Tracker};
-use cfs_file::{LONGEST_FILE, Request, span_of};
+use cfs_file::{LONGEST_FILE, LONGEST_WRITE, Request, span_of};
+
+fn is_change(request: &Request) -> bool
+    ensures { result ≡ is_change request.now }
+{
+    match request {
+        Request::Write { bytes, .. } | Request::Append { bytes } => {
+            1 <= bytes.len() && bytes.len() as u64 <= LONGEST_WRITE
+        }
+        Request::Truncate { .. } => true,
+        Request::Read { .. } | Request::Sync => false,
+    }
+}
 
 impl<S: Drop, D: Drop, B: Drop> Tracker<S, D, B> {
     /// Whether the file after the request is short enough.
@@ -44,6 +56,17 @@ impl<S: Drop, D: Drop, B: Drop> Tracker<S, D, B> {
             (span request.now (view_of self.now).long) }
     {
         first_unmapped(self.cells.as_slice(), span_of(request, self.long))
+    }
+
+    /// Whether the request may be admitted: nothing is in doubt, and it is a change whose file is
+    /// short enough and whose blocks are mapped.
+    pub fn may_admit(&self, request: &Request) -> bool
+        ensures { IsTrue result ↔ MayAdmit (view_of self.now) request.now }
+    {
+        self.doubt.is_none()
+            && is_change(request)
+            && self.fits(request)
+            && self.first_unmapped(request).is_none()
     }
 
     /// A change takes the next place: its gate was opened with this number. Answers the place.

@@ -15,7 +15,7 @@ ghost use Rattle.cfs_tracker.specs.View.{KeepsRoom, entry_at, view_of};
 use crate::ahead::{first_ahead, first_read_ahead, lesser};
 use crate::blockers::place_of;
 use crate::find::{entry_of, redo};
-use crate::lending::{holder, lend, next_cell};
+use crate::lending::{holder, is_still, lend, next_cell};
 use crate::{Doing, Pending, Step, Taken, Tracker};
 
 impl<S: Drop, D: Drop, B: Drop> Tracker<S, D, B> {
@@ -91,6 +91,13 @@ impl<S: Drop, D: Drop, B: Drop> Tracker<S, D, B> {
         }
     }
 
+    /// Whether no block whose tag is set is in the caller's hands.
+    pub fn is_still(&self) -> bool
+        ensures { result ≡ list_all (λ cell. is_still cell) (view_of self.now).cells }
+    {
+        self.cells.iter().all(|cell| is_still(cell))
+    }
+
     /// A job takes the change at a place, as `step` says, with these blocks.
     pub fn dispatch(&mut self, place: u64, first: Option<u64>, second: Option<u64>) -> Taken<S, B>
         requires ready { step_at (view_of self.old) place ≡ takes first second }
@@ -107,9 +114,8 @@ impl<S: Drop, D: Drop, B: Drop> Tracker<S, D, B> {
     {
         let slots = match redo(&mut self.entries, place, Doing::Out { first, second }) {
             Some(Doing::Waiting(slots)) => slots,
-            Some(Doing::Marking | Doing::Out { .. } | Doing::Covered(_) | Doing::Closing) | None => {
-                unreachable!()
-            }
+            Some(Doing::Marking | Doing::Out { .. } | Doing::Covered(_) | Doing::Closing) | None =>
+                { unreachable!() }
         };
         let one = lend(&mut self.cells, first, place);
         let two = lend(&mut self.cells, second, place);

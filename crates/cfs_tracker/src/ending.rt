@@ -1,8 +1,8 @@
 //! What becomes of an entry and its blocks where its job ends.
 
-ghost use Rattle.std.specs.Prelude.{◌≡◌, is_none, option_copied, vec_capacity, vec_len};
+ghost use Rattle.std.specs.Prelude.{◌≡◌, ◌↔◌, IsTrue, Some, is_none, option_copied, vec_capacity, vec_len};
 ghost use Rattle.cfs_core.specs.Words.{sized};
-ghost use Rattle.cfs_tracker.specs.Finish.{applied_entry, done_with, home, is_last_entry, is_last_of, last_number, more_entry, number_of};
+ghost use Rattle.cfs_tracker.specs.Finish.{applied_entry, blocks_in, blocks_out, done_with, home, is_last_entry, is_last_of, last_number, more_entry, number_of};
 ghost use Rattle.cfs_tracker.specs.View.{with_entry};
 
 use crate::find::position_of;
@@ -56,12 +56,32 @@ fn last_number(last: Option<u64>, first: Option<u64>, second: Option<u64>) -> Op
     }
 }
 
-fn number_of<B>(tile: &Option<Tile<B>>) -> Option<u64>
+/// The number of a block.
+pub(crate) fn number_of<B>(tile: &Option<Tile<B>>) -> Option<u64>
     ensures { result ≡ number_of tile.now }
 {
     match tile {
         Some(tile) => Some(tile.block),
         None => None,
+    }
+}
+
+/// Whether an entry is out with the blocks of these numbers.
+pub(crate) fn is_out_with<S>(entry: Option<&Pending<S>>, one: Option<u64>, two: Option<u64>) -> bool
+    ensures { IsTrue result ↔ (blocks_out (option_copied entry.entry) ≡ Some (one, two)) }
+{
+    match entry {
+        Some(entry) => is_doing_with(&entry.doing, one, two),
+        None => false,
+    }
+}
+
+fn is_doing_with<S>(doing: &Doing<S>, one: Option<u64>, two: Option<u64>) -> bool
+    ensures { IsTrue result ↔ (blocks_in doing.now ≡ Some (one, two)) }
+{
+    match doing {
+        Doing::Out { first, second } => *first == one && *second == two,
+        Doing::Waiting(_) | Doing::Marking | Doing::Covered(_) | Doing::Closing => false,
     }
 }
 
@@ -135,12 +155,7 @@ fn redo_applied_in<S: Drop>(entries: &mut [Pending<S>], place: u64, slots: S)
     apply_entry(&mut entries[at], slots);
 }
 
-fn redo_entry<S: Drop>(
-    entry: &mut Pending<S>,
-    slots: S,
-    first: Option<u64>,
-    second: Option<u64>,
-)
+fn redo_entry<S: Drop>(entry: &mut Pending<S>, slots: S, first: Option<u64>, second: Option<u64>)
     ensures { entry.new ≡ more_entry slots first second entry.old }
 {
     entry.done = last_number(entry.done, first, second);

@@ -1,6 +1,6 @@
 //! A job ends.
 
-ghost use Rattle.std.specs.Prelude.{◌≡◌, true, option_copied};
+ghost use Rattle.std.specs.Prelude.{◌≡◌, ◌↔◌, IsTrue, true, option_copied};
 ghost use Rattle.cfs_core.specs.declared.event.End.TheVariants as ends;
 ghost use Rattle.cfs_core.specs.declared.event.Event.TheVariants as events;
 ghost use Rattle.cfs_core.specs.declared.event.SizeEnd.TheVariants as sizes;
@@ -13,7 +13,9 @@ ghost use Rattle.cfs_tracker.specs.Finish.{IsOut, applied, applied_at, as_far, b
 ghost use Rattle.cfs_tracker.specs.Follows.{Follows};
 ghost use Rattle.cfs_tracker.specs.View.{KeepsRoom, entry_at, view_of};
 
-use crate::ending::{bring_home, is_last_of, redo_applied, redo_more, sized};
+use crate::ending::{
+    bring_home, is_last_of, is_out_with, number_of, redo_applied, redo_more, sized,
+};
 use crate::find::{drop_entry, entry_of, redo};
 use crate::{Doing, Tile, Tracker};
 
@@ -46,6 +48,17 @@ impl<S: Drop, D: Drop, B: Drop> Tracker<S, D, B> {
         }
     }
 
+    /// Whether the entry at a place is out with these blocks.
+    pub fn is_out(&self, place: u64, first: &Option<Tile<B>>, second: &Option<Tile<B>>) -> bool
+        ensures { IsTrue result ↔ IsOut (view_of self.now) place first.now second.now }
+    {
+        is_out_with(
+            entry_of(self.entries.as_slice(), place),
+            number_of(first),
+            number_of(second),
+        )
+    }
+
     /// The entry at a place is retired: its job was through, the size word is as `size_after` says,
     /// and its gate is closed.
     pub fn retired(&mut self, place: u64, first: Option<Tile<B>>, second: Option<Tile<B>>)
@@ -66,13 +79,7 @@ impl<S: Drop, D: Drop, B: Drop> Tracker<S, D, B> {
     }
 
     /// The blocks of the job at a place are done, and more are to come: the entry waits again.
-    pub fn more(
-        &mut self,
-        place: u64,
-        slots: S,
-        first: Option<Tile<B>>,
-        second: Option<Tile<B>>,
-    )
+    pub fn more(&mut self, place: u64, slots: S, first: Option<Tile<B>>, second: Option<Tile<B>>)
         requires { IsOut (view_of self.old) place first second }
         ensures view { view_of self.new ≡ more place slots first second (view_of self.old) }
         ensures room { KeepsRoom self.old self.new }
@@ -134,13 +141,7 @@ impl<S: Drop, D: Drop, B: Drop> Tracker<S, D, B> {
 
     /// The size word was set for the entry at a place, whose job was through, and its gate may be
     /// open or closed: the entry waits again, and is applied.
-    pub fn applied(
-        &mut self,
-        place: u64,
-        slots: S,
-        first: Option<Tile<B>>,
-        second: Option<Tile<B>>,
-    )
+    pub fn applied(&mut self, place: u64, slots: S, first: Option<Tile<B>>, second: Option<Tile<B>>)
         requires out { IsOut (view_of self.old) place first second }
         requires last { is_last (view_of self.old) place ≡ true }
         ensures view { view_of self.new ≡ applied place slots first second (view_of self.old) }

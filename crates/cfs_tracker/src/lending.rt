@@ -3,7 +3,7 @@
 ghost use Rattle.std.specs.Prelude.{◌≡◌, Some, find, is_some, length, true, vec_len};
 ghost use Rattle.std.specs.List.{range_with_len};
 ghost use Rattle.cfs_core.specs.Jobs.{is_above};
-ghost use Rattle.cfs_tracker.specs.Dispatch.{holder, is_kept, is_wanted_cell, lend, next_cell, tile_at};
+ghost use Rattle.cfs_tracker.specs.Dispatch.{holder, is_kept, is_still, is_wanted_cell, lend, next_cell, tile_at};
 
 use crate::cells::is_mapped;
 use crate::{Cell, Tile};
@@ -68,4 +68,11 @@ pub(crate) fn lend<B: Drop>(
         Cell::Home(home) => Some(Tile { block, home }),
         Cell::Hole | Cell::Unsure(_) | Cell::Lent(_) | Cell::Moving(_) => unreachable!(),
     }
+}
+
+/// The block is not in the caller's hands with its tag set.
+pub(crate) fn is_still<B>(cell: &Cell<B>) -> bool
+    ensures { result ≡ is_still cell.now }
+{
+    !matches!(cell, Cell::Moving(true))
 }

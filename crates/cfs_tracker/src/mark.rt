@@ -11,7 +11,7 @@ ghost use Rattle.cfs_tracker.specs.Mark.{is_marking_by, marked, marked_doing, ma
 ghost use Rattle.cfs_tracker.specs.View.{KeepsRoom, entry_at, view_of};
 
 use crate::blockers::place_of;
-use crate::covers::first_to_mark;
+use crate::covers::{first_to_mark, may_mark_both};
 use crate::find::{entry_of, redo};
 use crate::{Doing, Pending, Tracker};
 
@@ -63,9 +63,8 @@ impl<S: Drop, D: Drop, B: Drop> Tracker<S, D, B> {
         }
         match redo(&mut self.entries, place, Doing::Marking) {
             Some(Doing::Waiting(slots)) => Some(slots),
-            Some(Doing::Marking | Doing::Out { .. } | Doing::Covered(_) | Doing::Closing) | None => {
-                unreachable!()
-            }
+            Some(Doing::Marking | Doing::Out { .. } | Doing::Covered(_) | Doing::Closing) | None =>
+                { unreachable!() }
         }
     }
 
@@ -76,6 +75,19 @@ impl<S: Drop, D: Drop, B: Drop> Tracker<S, D, B> {
             Some(entry) => entry.doing.is_waiting(),
             None => false,
         }
+    }
+
+    /// Whether the slots of the change at a place are out to be marked, and the live entry at `by`
+    /// covers it, with no read between that overlaps it.
+    pub fn is_marking_by(&self, place: u64, by: u64) -> bool
+        ensures { result ≡ is_marking_by (view_of self.now) place by }
+    {
+        let entries = self.entries.as_slice();
+        may_mark_both(
+            self.reads.as_slice(),
+            entry_of(entries, by),
+            entry_of(entries, place),
+        )
     }
 
     /// The slots that `take_waiting` gave come back: the change at the place is a no-op, covered by

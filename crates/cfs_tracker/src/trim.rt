@@ -1,6 +1,6 @@
 //! Blocks past the stored size are given up.
 
-ghost use Rattle.std.specs.Prelude.{◌≡◌, ◌&&◌, find, is_none, length, true};
+ghost use Rattle.std.specs.Prelude.{◌≡◌, ◌&&◌, IfSome, find, is_none, length, true};
 ghost use Rattle.std.specs.List.{list_any, range_with_len};
 ghost use Rattle.cfs_core.specs.declared.event.Event.TheVariants as events;
 ghost use Rattle.cfs_core.specs.declared.inode_core.Core.{Core};
@@ -26,9 +26,7 @@ fn is_held<B>(cells: &[Cell<B>], block: u64) -> bool
 fn has_live_in<S>(entries: &[Pending<S>], span: &Span) -> bool
     ensures { result ≡ list_any (is_live_in span.now) entries.now }
 {
-    entries
-        .iter()
-        .any(|entry| entry.doing.is_live() && overlaps(&entry.span, span))
+    entries.iter().any(|entry| entry.doing.is_live() && overlaps(&entry.span, span))
 }
 
 fn is_doubt_in<D>(span: &Span, doubt: &Option<InDoubt<D>>) -> bool
@@ -54,10 +52,11 @@ impl<S: Drop, D: Drop, B: Drop> Tracker<S, D, B> {
     /// it begins at or past the stored size, and no live entry and no request in doubt has a
     /// position of it. None exactly where there is none.
     pub fn next_trim(&self) -> Option<u64>
-        ensures { result ≡ next_trim (view_of self.now) }
+        ensures block { result ≡ next_trim (view_of self.now) }
+        ensures past { IfSome result (λ block. is_past (view_of self.now) block ≡ true) }
     {
-        (0..self.cells.len() as u64)
-            .find(|block| is_held(self.cells.as_slice(), *block) && self.is_past(*block))
+        (0..self.cells.len() as u64).find(|block| is_held(self.cells.as_slice(), *block)
+            && self.is_past(*block))
     }
 
     /// Whether the block is one of the file's and begins at or past the stored size, and no live
