@@ -29,6 +29,13 @@ fn is_change(request: &Request) -> bool
 }
 
 impl<S: Drop, D: Drop, B: Drop> Tracker<S, D, B> {
+    /// How many places were given.
+    pub fn count(&self) -> u64
+        ensures { result ≡ (view_of self.now).count }
+    {
+        self.count
+    }
+
     /// Whether the file after the request is short enough.
     pub fn fits(&self, request: &Request) -> bool
         ensures { result ≡ nat_le (long_after (view_of self.now).long request.now) LONGEST_FILE }

@@ -1,6 +1,6 @@
 //! Blocks are tagged.
 
-ghost use Rattle.std.specs.Prelude.{◌≡◌, ◌<◌, true};
+ghost use Rattle.std.specs.Prelude.{◌≡◌, ◌<◌, ◌↔◌, IsTrue, true};
 ghost use Rattle.cfs_file.specs.declared.sizes.TheConstants.{FILE_BLOCKS};
 ghost use Rattle.cfs_core.specs.declared.event.Event.TheVariants as events;
 ghost use Rattle.cfs_core.specs.declared.inode_core.Core.{Core};
@@ -51,6 +51,18 @@ impl<S: Drop, D: Drop, B: Drop> Tracker<S, D, B> {
             Follows (view_of self.new) core }
     {
         take_from(&mut self.cells[block as usize])
+    }
+
+    /// Whether a zero block may be tagged for a block of the file: no block is tagged for it in
+    /// every image, and none is kept here.
+    pub fn is_bare(&self, block: u64) -> bool
+        ensures { IsTrue result ↔
+            ((block < FILE_BLOCKS) × (is_bare (cell_at (view_of self.now).cells block) ≡ true)) }
+    {
+        match self.cells.get(block as usize) {
+            Some(Cell::Hole | Cell::Moving(false)) => true,
+            Some(Cell::Home(_) | Cell::Unsure(_) | Cell::Lent(_) | Cell::Moving(true)) | None => false,
+        }
     }
 
     /// A zero block was tagged for a block of the file, or, where that was not kept, its tag failed.
