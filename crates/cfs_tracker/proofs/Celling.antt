@@ -1,11 +1,10 @@
 -- A tracker goes on to follow its core where one block of the file changes its tag.
-use Rattle.std.proofs.Common.{◌≡◌, ◌∙◌, ap, arith, ◌<◌, get_or, inl, inr, length, List, refl, set, sym, true, false, ℕ, Bool, subst, get_or-set_other, length-set}
+use Rattle.std.proofs.Common.{◌≡◌, ◌∙◌, arith, ◌<◌, get_or, inl, inr, length, List, refl, set, sym, true, false, ℕ, Bool, subst, get_or-set_other, length-set}
 use Rattle.std.proofs.lemmas.Grind.{get_or-set_at}
 use Rattle.cfs_file.specs.declared.sizes.TheConstants.{FILE_BLOCKS}
 use Rattle.cfs_core.specs.declared.flag.Flag.{Flag}
 use Rattle.cfs_core.specs.declared.flag.Flag.TheVariants as flags
 use Rattle.cfs_core.specs.declared.inode_core.Core.{Core}
-use Rattle.cfs_core.specs.Words.{has_block, track}
 use Rattle.cfs_core.proofs.Order.{same_or_not}
 use Rattle.cfs_core_laws.specs.Reached.{IsReached}
 use Rattle.cfs_tracker.specs.declared.cell.Cell.{Cell}

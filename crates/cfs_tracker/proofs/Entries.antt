@@ -1,13 +1,12 @@
 -- Entries by their places.
-use Rattle.std.proofs.Common.{◌≡◌, ◌∙◌, ◌<◌, ◌≤◌, ◌+◌, ◌++◌, ◌==◌, ◌⊎◌, ap, arith, cond, false, filter, get_or, inl, inr, length, List, [], ◌∷◌, not, Option, None, Some, refl, set, suc, sym, true, zero, ℕ, Bool}
+use Rattle.std.proofs.Common.{◌≡◌, ◌∙◌, ◌<◌, ◌≤◌, ◌+◌, ◌++◌, ◌==◌, ap, arith, cond, false, filter, get_or, inl, inr, length, List, [], ◌∷◌, not, None, Some, refl, set, suc, sym, true, zero, ℕ, Bool}
 use Rattle.std.specs.Prelude.{option_map}
 use Rattle.std.specs.List.{find, list_any, position, position_or_len, slice_get}
 use Rattle.std.proofs.lemmas.Bool.{cases_Bool, cases_lt}
 use Rattle.std.proofs.lemmas.Bool.Decides.{nat_tests}
 use Rattle.cfs_core.proofs.Legal.{neither}
-use Rattle.cfs_tracker.specs.declared.doing.Doing.{Doing}
 use Rattle.cfs_tracker.specs.declared.pending.Pending.{Pending}
-use Rattle.cfs_tracker.specs.View.{doing, entry_at, entry_place, is_at, with_entry, without}
+use Rattle.cfs_tracker.specs.View.{entry_at, entry_place, is_at, with_entry, without}
 use Rattle.cfs_tracker.specs.Follows.{Rise}
 
 -- ---- where it stands

@@ -1,12 +1,10 @@
 -- A job ends.
-use Rattle.std.proofs.Common.{◌≡◌, ◌∙◌, ap, arith, ◌-◌, ◌<◌, ◌==◌, ◌&&◌, ◌||◌, ◌++◌, ◌⊎◌, get_or, inl, inr, length, List, [], ◌∷◌, not, Option, None, Some, refl, set, sym, true, false, ℕ, Bool, subst, length-set}
-use Rattle.std.specs.Prelude.{is_none, nat_lt, option_map}
+use Rattle.std.proofs.Common.{◌≡◌, ◌∙◌, ap, arith, ◌<◌, ◌&&◌, ◌||◌, ◌++◌, ◌⊎◌, get_or, inl, inr, length, List, [], ◌∷◌, Option, None, Some, refl, set, sym, true, false, ℕ, Bool, subst, length-set}
+use Rattle.std.specs.Prelude.{nat_lt, option_map}
 use Rattle.std.proofs.lemmas.Bool.{cases_Bool}
 use Rattle.std.proofs.lemmas.Bool.Decides.{nat_tests}
 use Rattle.cfs_file.specs.declared.sizes.TheConstants.{FILE_BLOCKS}
-use Rattle.cfs_file.specs.declared.span.Span.{Span}
 use Rattle.cfs_file.specs.Span.{meets}
-use Rattle.cfs_core.specs.declared.event.End.{End}
 use Rattle.cfs_core.specs.declared.event.End.TheVariants as ends
 use Rattle.cfs_core.specs.declared.event.Event.TheVariants as events
 use Rattle.cfs_core.specs.declared.event.SizeEnd.{SizeEnd}
@@ -14,15 +12,14 @@ use Rattle.cfs_core.specs.declared.event.SizeEnd.TheVariants as sizes
 use Rattle.cfs_core.specs.declared.flag.Flag.{Flag}
 use Rattle.cfs_core.specs.declared.flag.Flag.TheVariants as flags
 use Rattle.cfs_core.specs.declared.inode_core.Core.{Core}
-use Rattle.cfs_core.specs.declared.state.Job.{Job}
 use Rattle.cfs_core.specs.declared.state.Lease.{Lease}
 use Rattle.cfs_core.specs.declared.state.State.{State}
 use Rattle.cfs_core.specs.declared.state.State.TheVariants as states
 use Rattle.cfs_core.specs.declared.track.Track.{Track}
 use Rattle.cfs_core.specs.Words.{block_span, has_block, is_done, is_lease, is_on, is_out, is_through, sized, track}
-use Rattle.cfs_core.specs.Jobs.{done_after, is_above, is_wanted, last_of, next_block}
+use Rattle.cfs_core.specs.Jobs.{done_after, is_above, last_of, next_block}
 use Rattle.cfs_core.specs.May.{ends_well, may, stands_at}
-use Rattle.cfs_core.specs.After.{after, more_to_come, put_back as back_track, retired as retired_track, with_track}
+use Rattle.cfs_core.specs.After.{after, more_to_come, put_back as back_track, retired as retired_track}
 use Rattle.cfs_core.proofs.Legal.{both, or_right}
 use Rattle.cfs_core.proofs.Order.{same_or_not}
 use Rattle.cfs_core_laws.specs.Reached.{IsReached}
@@ -37,7 +34,7 @@ use Rattle.cfs_tracker.specs.declared.doing.Doing.{Doing}
 use Rattle.cfs_tracker.specs.declared.doing.Doing.TheVariants as doings
 use Rattle.cfs_tracker.specs.declared.pending.Pending.{Pending}
 use Rattle.cfs_tracker.specs.declared.tile.Tile.{Tile}
-use Rattle.cfs_tracker.specs.View.{TrackerView, doing, entry_at, entry_place, read_at, with_entry, without}
+use Rattle.cfs_tracker.specs.View.{TrackerView, doing, entry_at, entry_place, with_entry, without}
 use Rattle.cfs_tracker.specs.Cells.{cell_at}
 use Rattle.cfs_tracker.specs.Dispatch.{next_cell}
 use Rattle.cfs_tracker.specs.Finish.{IsOut, applied, applied_at, applied_entry, applied_in, as_far, blocks_in, blocks_out, done_with, home, is_last, is_last_entry, is_last_of, last_number, more, more_entry, number_of, put_back, retired, size_after, size_unsure, span_in}

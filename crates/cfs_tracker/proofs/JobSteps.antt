@@ -1,5 +1,5 @@
 -- A tracker follows its core through the steps of the jobs, which are made out of its sight.
-use Rattle.std.proofs.Common.{◌≡◌, ◌∙◌, ap, arith, ◌-◌, ◌<◌, ◌&&◌, ◌||◌, ◌==◌, length, List, Option, None, Some, refl, set, sym, true, false, ℕ, Bool, subst, inl, inr}
+use Rattle.std.proofs.Common.{◌≡◌, ◌∙◌, ap, ◌-◌, ◌<◌, ◌==◌, length, List, Option, None, Some, refl, set, sym, true, false, ℕ, Bool, subst, inl, inr}
 use Rattle.std.specs.Prelude.{nat_lt}
 use Rattle.std.proofs.lemmas.Bool.{cases_Bool}
 use Rattle.cfs_file.specs.declared.sizes.TheConstants.{FILE_BLOCKS}
@@ -26,7 +26,7 @@ use Rattle.cfs_tracker.specs.declared.doing.Doing.TheVariants as doings
 use Rattle.cfs_tracker.specs.declared.pending.Pending.{Pending}
 use Rattle.cfs_tracker.specs.declared.reading.Reading.{Reading}
 use Rattle.cfs_tracker.specs.View.{TrackerView, entry_at, read_at}
-use Rattle.cfs_tracker.specs.Follows.{Follows, HasJob, IsDoing, IsTrack, StandsAt, block_of}
+use Rattle.cfs_tracker.specs.Follows.{Follows, HasJob, IsDoing, StandsAt, block_of}
 use Rattle.cfs_tracker.proofs.Putting.{stands-by}
 use Rattle.cfs_tracker.proofs.Tracks.{in-log, track-here}
 

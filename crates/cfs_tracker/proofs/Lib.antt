@@ -16,3 +16,4 @@ pub mod Finishing
 pub mod Trimming
 pub mod JobSteps
 pub mod Leasts
+pub mod Windows

@@ -1,5 +1,5 @@
 -- A tracker goes on to follow its core where one track is put.
-use Rattle.std.proofs.Common.{◌≡◌, ◌∙◌, ap, arith, ◌-◌, ◌<◌, get_or, inl, inr, length, List, [], Option, None, Some, refl, set, sym, true, false, ℕ, Bool, subst, length-set}
+use Rattle.std.proofs.Common.{◌≡◌, ◌∙◌, ap, ◌-◌, ◌<◌, get_or, inl, inr, length, List, [], Option, None, Some, refl, set, sym, true, ℕ, Bool, subst}
 use Rattle.std.specs.Prelude.{option_map}
 use Rattle.cfs_file.specs.declared.sizes.TheConstants.{FILE_BLOCKS}
 use Rattle.cfs_core.specs.declared.flag.Flag.TheVariants as flags
@@ -7,7 +7,6 @@ use Rattle.cfs_core.specs.declared.inode_core.Core.{Core}
 use Rattle.cfs_core.specs.declared.state.State.{State}
 use Rattle.cfs_core.specs.declared.track.Track.{Track}
 use Rattle.cfs_core.specs.Words.{has_block, track}
-use Rattle.cfs_core.specs.May.{is_sync_at}
 use Rattle.cfs_core.specs.After.{with_track}
 use Rattle.cfs_core.proofs.Marks.{track_beside}
 use Rattle.cfs_core.proofs.Order.{same_or_not}
@@ -17,7 +16,7 @@ use Rattle.cfs_tracker.specs.declared.cell.Cell.TheVariants as kinds
 use Rattle.cfs_tracker.specs.declared.doing.Doing.{Doing}
 use Rattle.cfs_tracker.specs.declared.pending.Pending.{Pending}
 use Rattle.cfs_tracker.specs.declared.reading.Reading.{Reading}
-use Rattle.cfs_tracker.specs.View.{TrackerView, doing, entry_at, entry_place, read_at, reading_place, with_entry, without}
+use Rattle.cfs_tracker.specs.View.{TrackerView, doing, entry_at, entry_place, read_at, reading_place, with_entry}
 use Rattle.cfs_tracker.specs.Cells.{cell_at}
 use Rattle.cfs_tracker.specs.Follows.{CellStands, Follows, IsDoing, IsTrack, Rise, StandsAt, gate_for, is_dead}
 use Rattle.cfs_tracker.proofs.Entries.{at-with, here-with, rise-with}

@@ -1,5 +1,5 @@
 -- Reads and syncs are admitted, served and dropped.
-use Rattle.std.proofs.Common.{◌≡◌, ◌∙◌, ap, arith, ◌+◌, ◌++◌, ◌-◌, ◌<◌, ◌==◌, ◌&&◌, ◌||◌, inl, inr, length, List, [], ◌∷◌, not, Option, None, Some, refl, sym, true, false, ℕ, Bool, subst, take}
+use Rattle.std.proofs.Common.{◌≡◌, ◌∙◌, ap, arith, ◌+◌, ◌++◌, ◌<◌, ◌==◌, ◌&&◌, ◌||◌, inl, inr, length, List, [], ◌∷◌, not, Option, None, Some, refl, sym, true, false, ℕ, Bool}
 use Rattle.std.specs.Prelude.{is_some, nat_lt}
 use Rattle.std.specs.List.{find, list_any}
 use Rattle.std.specs.Option.{option_or}
@@ -13,14 +13,13 @@ use Rattle.cfs_file.specs.File.{effect}
 use Rattle.cfs_file.specs.Span.{meets, span}
 use Rattle.cfs_core.specs.declared.event.Event.TheVariants as events
 use Rattle.cfs_core.specs.declared.inode_core.Core.{Core}
-use Rattle.cfs_core.specs.declared.state.State.{State}
 use Rattle.cfs_core.specs.declared.state.State.TheVariants as states
 use Rattle.cfs_core.specs.declared.track.Track.{Track}
 use Rattle.cfs_core.specs.Words.{blocks_needed, has_block, is_lent, is_live, is_unserved, track}
 use Rattle.cfs_core.specs.Medium.{file}
-use Rattle.cfs_core.specs.May.{are_stored, has_live, is_query, is_sync_at, is_sync_request, may, meets_live, must_wait, span_now}
+use Rattle.cfs_core.specs.May.{are_stored, is_query, is_sync_at, may, must_wait, span_now}
 use Rattle.cfs_core.specs.After.{after, query_track}
-use Rattle.cfs_core.proofs.Legal.{and_all, neither}
+use Rattle.cfs_core.proofs.Legal.{neither}
 use Rattle.cfs_core_laws.specs.Reached.IsReached.{comes}
 use Rattle.cfs_tracker.specs.declared.pending.Pending.{Pending}
 use Rattle.cfs_tracker.specs.declared.reading.Reading.{Reading}

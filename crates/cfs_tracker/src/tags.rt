@@ -61,7 +61,8 @@ impl<S: Drop, D: Drop, B: Drop> Tracker<S, D, B> {
     {
         match self.cells.get(block as usize) {
             Some(Cell::Hole | Cell::Moving(false)) => true,
-            Some(Cell::Home(_) | Cell::Unsure(_) | Cell::Lent(_) | Cell::Moving(true)) | None => false,
+            Some(Cell::Home(_) | Cell::Unsure(_) | Cell::Lent(_) | Cell::Moving(true)) | None =>
+                false,
         }
     }
 

@@ -1,6 +1,4 @@
-use Rattle.std.proofs.Common.{◌≡◌, ◌∙◌, ap, refl, sym, true, subst, List, Option}
-use Rattle.cfs_tracker.specs.declared.cell.Cell.{Cell}
-use Rattle.cfs_tracker.specs.Dispatch.{is_kept, tile_at}
+use Rattle.std.proofs.Common.{◌∙◌, refl}
 use Rattle.cfs_tracker.specs.View.{view_of}
 use Rattle.cfs_tracker.proofs.Dispatching.{first-kept, follows-dispatched, ready-blocks, second-kept, second-tile, taking}
 use Rattle.cfs_tracker.proofs.Putting.{same-view}
