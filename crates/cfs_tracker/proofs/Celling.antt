@@ -52,7 +52,8 @@ follows-cell {S} {D} {B} view core block cell tags follows reached less own besi
   many = length-set view.cells block cell ∙ follows.many;
   cells = λ other low. elim (same_or_not other block) [
     | inl same ↦
-        subst (λ (k : ℕ). CellStands (cell_at (set view.cells block cell) k) (get_or tags k flags.Off))
+        subst (λ (k : ℕ). CellStands (cell_at (set view.cells block cell) k) (get_or tags k
+        flags.Off))
         (sym same)
         (subst (λ (c : Cell B). CellStands c (get_or tags block flags.Off))
         (sym (cell-here view.cells block cell (omega (arith, follows.many)))) stands)

@@ -534,13 +534,15 @@ follows-dispatched {S} {D} {B} view core place first second is are follows =
     let inside = in-log is_waiting refl core.tracks place waits in
     let now : Doing S = doings.Out first second in
     let unread : read_at view.reads place ≡ None = read-of view core place entry follows is.there in
-    let there : entry_at (with_entry place (doing now) view.entries) place ≡ Some (doing now entry) =
+    let there : entry_at (with_entry place (doing now) view.entries) place ≡ Some (doing now entry)
+    =
     here-with view.entries place (doing now) (λ e. refl) ∙ ap (option_map (doing now)) is.there in
     let reached = comes core (events.Dispatch place) follows.reached may_be in (
       may_be,
       follows-put view core place (record t { state = states.Out (next_job core.tags t) })
           (with_entry place (doing now) view.entries) view.reads
-          (lend place second (lend place first view.cells)) core.size core.sizes view.stored view.is_sure
+          (lend place second (lend place first view.cells)) core.size core.sizes view.stored
+          view.is_sure
           follows reached follows.size follows.sure
           (record {
             some = inside.0;
@@ -562,7 +564,8 @@ follows-dispatched {S} {D} {B} view core place first second is are follows =
                   ∙ ap (λ (dead : Bool). gate_for dead entry.applied)
                   (waits-alive entry.doing is.waits);
               idle = λ applied block.
-                  ap (λ (j : Job). has_block (states.Out j) block) (job-is view core entry t follows own)
+                  ap (λ (j : Job). has_block (states.Out j) block) (job-is view core entry t
+                  follows own)
                   ∙ idle-job view.cells entry block applied;
             });
             unread = unread;

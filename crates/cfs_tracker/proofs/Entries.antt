@@ -106,7 +106,8 @@ at-with (x ∷ xs) place other change keeps apart = elim (cases_Bool (is_at plac
       let now : is_at other (change x) ≡ false = ap (λ n. n == other) (keeps x) ∙ was in
       rw (own, was, now) refl
   | inr beside ↦
-      rw beside (ap (λ o. cond (is_at other x) (Some x) o) (at-with xs place other change keeps apart))
+      rw beside (ap (λ o. cond (is_at other x) (Some x) o) (at-with xs place other change keeps
+      apart))
 ]
 
 pub here-with : {S : Type 0} (es : List (Pending S)) (place : ℕ)

@@ -17,3 +17,4 @@ pub mod Trimming
 pub mod JobSteps
 pub mod Leasts
 pub mod Windows
+pub mod Behind

@@ -217,7 +217,8 @@ follows-marked {S} view core place by slots kept h follows =
     let inside = in-log is_waiting refl core.tracks place
     (ap (λ (s : State). is_waiting s) waits) in
     let now : Doing S = marked_doing slots kept in
-    let unread : read_at view.reads place ≡ None = read-of view core place is.entry follows is.here in
+    let unread : read_at view.reads place ≡ None = read-of view core place is.entry follows is.here
+    in
     let there : entry_at (with_entry place (doing now) view.entries) place
     ≡ Some (doing now is.entry) =
     here-with view.entries place (doing now) (λ e. refl) ∙ ap (option_map (doing now)) is.here in (

@@ -56,7 +56,8 @@ track-last tracks t =
 
 track-past : (tracks : List Track) (q : ℕ) → length tracks < q → track tracks q ≡ blank
 track-past tracks q less =
-    track_is tracks q (q - 1) (λ e. omega arith) refl ∙ get_or_past tracks (q - 1) blank (omega arith)
+    track_is tracks q (q - 1) (λ e. omega arith) refl ∙ get_or_past tracks (q - 1) blank (omega
+    arith)
 
 track-far : (tracks : List Track) (t : Track) (q : ℕ) → length tracks + 1 < q →
     track (tracks ++ t ∷ []) q ≡ track tracks q
@@ -105,7 +106,8 @@ sync-old log e q apart = elim (same_or_not q 0) [
   | inl none ↦ rw none refl
   | inr some ↦
       sync-is (log ++ e ∷ []) q some
-      ∙ (ap is_sync (get-old log e (q - 1) (λ same. apart (omega arith))) ∙ sym (sync-is log q some))
+      ∙ (ap is_sync (get-old log e (q - 1) (λ same. apart (omega arith))) ∙ sym (sync-is log q
+      some))
 ]
 
 sync-last : (log : List Entry) (e : Entry) →

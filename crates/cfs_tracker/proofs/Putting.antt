@@ -60,9 +60,11 @@ read-of view core place entry follows is =
 
 pub entries-are : {S D B : Type 0} (view : TrackerView S D B) (core : Core)
     {items entries : List (Pending S)} → items ≡ entries →
-    Follows (record view { entries = entries }) core → Follows (record view { entries = items }) core
+    Follows (record view { entries = entries }) core → Follows (record view { entries = items })
+    core
 entries-are {S} view core {items} {entries} same follows =
-    subst (λ (es : List (Pending S)). Follows (record view { entries = es }) core) (sym same) follows
+    subst (λ (es : List (Pending S)). Follows (record view { entries = es }) core) (sym same)
+    follows
 
 redo-one : {S : Type 0} (now : Doing S) (entry : Option (Pending S)) (read : Option Reading)
     (t : Track) →
@@ -85,7 +87,8 @@ follows-redo {S} view core place now follows keeps = record {
   size = follows.size;
   sure = follows.sure;
   entries = λ q. elim (same_or_not q place) [
-    | inl same ↦ subst (λ (n : ℕ). StandsAt (entry_at (with_entry place (doing now) view.entries) n) (read_at view.reads n) (track core.tracks n)) (sym same)
+    | inl same ↦ subst (λ (n : ℕ). StandsAt (entry_at (with_entry place (doing now) view.entries)
+        n) (read_at view.reads n) (track core.tracks n)) (sym same)
         (stands-by (here-with view.entries place (doing now) (λ e. refl)) refl refl
         (redo-one now (entry_at view.entries place) (read_at view.reads place)
         (track core.tracks place) keeps (follows.entries place)))
@@ -147,43 +150,47 @@ pub follows-put : {S D B : Type 0} (view : TrackerView S D B) (core : Core) (pla
       stored = stored;
       is_sure = is_sure;
     }) (record (with_track core place t) { size = size; sizes = sizes })
-follows-put {S} {D} {B} view core place t entries reads cells size sizes stored is_sure follows reached known sure puts = record {
-  reached = reached;
-  up = follows.up;
-  count = follows.count;
-  long = follows.long;
-  size = known;
-  sure = sure;
-  entries = λ q. elim (same_or_not q place) [
-    | inl same ↦ subst (λ (n : ℕ). StandsAt (entry_at entries n) (read_at reads n) (track (set core.tracks (place - 1) t) n)) (sym same)
-        (stands-by refl refl (track-here core.tracks place t puts.some puts.within) puts.here)
-    | inr apart ↦
-        stands-by (puts.entries_beside q apart) (puts.reads_beside q apart)
-        (track_beside core.tracks place q t puts.some apart) (follows.entries q)
-  ];
-  rise = puts.rise;
-  reads_rise = puts.reads_rise;
-  syncs = λ q read is. elim (same_or_not q place) [
-    | inl same ↦
-        let none : read_at reads q ≡ None = subst (λ (n : ℕ). read_at reads n ≡ None) (sym same) puts.unread in
-        cc
-    | inr apart ↦ follows.syncs q read (sym (puts.reads_beside q apart) ∙ is)
-  ];
-  many = puts.many;
-  cells = puts.cells_stand;
-  lent = λ q block has. elim (same_or_not q place) [
-    | inl same ↦
-        subst (λ (n : ℕ). cell_at cells block ≡ kinds.Lent n) (sym same)
-        (puts.lent block
-        (subst (λ (u : Track). has_block u.state block ≡ true)
-        (ap (λ (n : ℕ). track (set core.tracks (place - 1) t) n) same ∙ track-here core.tracks place t puts.some puts.within) has))
-    | inr apart ↦
-        puts.lent_beside q block apart
-        (subst (λ (u : Track). has_block u.state block ≡ true)
-        (track_beside core.tracks place q t puts.some apart) has)
-  ];
-  doubt = follows.doubt;
-}
+follows-put {S} {D} {B} view core place t entries reads cells size sizes stored is_sure follows
+    reached known sure puts = record {
+      reached = reached;
+      up = follows.up;
+      count = follows.count;
+      long = follows.long;
+      size = known;
+      sure = sure;
+      entries = λ q. elim (same_or_not q place) [
+        | inl same ↦ subst (λ (n : ℕ). StandsAt (entry_at entries n) (read_at reads n) (track (set
+            core.tracks (place - 1) t) n)) (sym same)
+            (stands-by refl refl (track-here core.tracks place t puts.some puts.within) puts.here)
+        | inr apart ↦
+            stands-by (puts.entries_beside q apart) (puts.reads_beside q apart)
+            (track_beside core.tracks place q t puts.some apart) (follows.entries q)
+      ];
+      rise = puts.rise;
+      reads_rise = puts.reads_rise;
+      syncs = λ q read is. elim (same_or_not q place) [
+        | inl same ↦
+            let none : read_at reads q ≡ None = subst (λ (n : ℕ). read_at reads n ≡ None) (sym same)
+            puts.unread in
+            cc
+        | inr apart ↦ follows.syncs q read (sym (puts.reads_beside q apart) ∙ is)
+      ];
+      many = puts.many;
+      cells = puts.cells_stand;
+      lent = λ q block has. elim (same_or_not q place) [
+        | inl same ↦
+            subst (λ (n : ℕ). cell_at cells block ≡ kinds.Lent n) (sym same)
+            (puts.lent block
+            (subst (λ (u : Track). has_block u.state block ≡ true)
+            (ap (λ (n : ℕ). track (set core.tracks (place - 1) t) n) same ∙ track-here core.tracks
+            place t puts.some puts.within) has))
+        | inr apart ↦
+            puts.lent_beside q block apart
+            (subst (λ (u : Track). has_block u.state block ≡ true)
+            (track_beside core.tracks place q t puts.some apart) has)
+      ];
+      doubt = follows.doubt;
+    }
 
 pub reads-are : {S D B : Type 0} (view : TrackerView S D B) (core : Core)
     {items reads : List Reading} → items ≡ reads →

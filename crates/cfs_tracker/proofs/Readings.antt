@@ -182,7 +182,8 @@ pub follows-served : {S D B : Type 0} (view : TrackerView S D B) (core : Core) (
 follows-served {S} view core place bytes there ready follows stored =
     let read = some-read (read_at view.reads place) there in
     let is = read-is view core place read.0 follows read.1 in
-    let waits : blocker_of_read view.entries read.0 ≡ None = sym (ap (blocker_of view.entries) read.1) ∙ ready in
+    let waits : blocker_of_read view.entries read.0 ≡ None = sym (ap (blocker_of view.entries)
+    read.1) ∙ ready in
     let both = or-none (place_of (find (is_before read.0) view.entries))
     (place_of (find (λ e. has_needed read.0.span e.doing) view.entries)) waits in
     let quiet_ = is-quiet view core place read.0 follows is
@@ -256,6 +257,7 @@ follows-read view core request entry query follows next same =
                 let it : reading request view ≡ read = cc in
                 rw (sym it, same) refl;
             long_is = ap length (query-keeps (file core) entry.request asks) ∙ follows.long;
-            free = λ block has. (let none_of : has_block states.Unserved block ≡ false = refl in cc);
+            free = λ block has. (let none_of : has_block states.Unserved block ≡ false = refl in
+                cc);
           }),
     )

@@ -115,7 +115,8 @@ pub next-window : {B : Type 0} (cells : List (Cell B)) (span : Span) (done : Opt
     ((k : ℕ) → last ≤ k → k < FILE_BLOCKS → meets span (block_span k) ≡ false) →
     low ≤ length cells → high ≤ length cells → ((k : ℕ) → k < low → k < max first above) →
     ((k : ℕ) → high ≤ k → min last (length cells) ≤ k) →
-    next_cell cells span done ≡ find (is_wanted_cell cells span done) (range_with_len low (high - low))
+    next_cell cells span done ≡ find (is_wanted_cell cells span done) (range_with_len low (high -
+    low))
 next-window cells span done first above last low high starts aboves ends one two lows highs =
     find-window (is_wanted_cell cells span done) (length cells) low high one two
     (λ k less. elim (cases_lt k first) [

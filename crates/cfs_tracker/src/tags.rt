@@ -66,7 +66,8 @@ impl<S: Drop, D: Drop, B: Drop> Tracker<S, D, B> {
         }
     }
 
-    /// A zero block was tagged for a block of the file, or, where that was not kept, its tag failed.
+    /// A zero block was tagged for a block of the file, or, where that was not kept, its tag
+    /// failed.
     pub fn tagged(&mut self, block: u64, home: B, kept: bool)
         requires block { block < FILE_BLOCKS }
         requires bare { is_bare (cell_at (view_of self.old).cells block) ≡ true }
