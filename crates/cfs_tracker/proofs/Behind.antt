@@ -4,7 +4,6 @@ use Rattle.std.proofs.lemmas.Bool.{cases_lt}
 use Rattle.cfs_core.specs.declared.doubt.Doubt.{Doubt}
 use Rattle.cfs_core.specs.declared.flag.Flag.TheVariants as flags
 use Rattle.cfs_core.specs.declared.inode_core.Core.{Core}
-use Rattle.cfs_core.specs.Words.{track}
 use Rattle.cfs_core_laws.proofs.Doubts.{in-step}
 use Rattle.cfs_core_laws.proofs.Whole.{whole}
 use Rattle.cfs_tracker.specs.declared.pending.Pending.{Pending}

@@ -207,7 +207,7 @@ blocks-of view place first second is still = record {
     two block own =
         (second-mapped view.cells is.entry.span first block (is.second_is ∙ own)).3
 
-kept-by : {B : Type 0} (cells : List (Cell B)) (held : Option ℕ) →
+pub kept-by : {B : Type 0} (cells : List (Cell B)) (held : Option ℕ) →
     ((block : ℕ) → held ≡ Some block → is_home (cell_at cells block) ≡ true) →
     is_kept cells held ≡ true
 kept-by cells None kept = refl

@@ -252,6 +252,21 @@ above-all at low (x ∷ xs) y zero rise there =
 above-all at low (x ∷ xs) y (suc k) rise there =
     omega (arith, rise.0, above-all at (at x) xs y k rise.1 there)
 
+-- what is found is above where the list begins
+pub above-find : {X : Type 0} (at : X → ℕ) (test : X → Bool) (low : ℕ) (xs : List X) (y : X) →
+    Rise at low xs → find test xs ≡ Some y → low < at y
+above-find at test low [] y rise is = cc
+above-find at test low (x ∷ xs) y rise is = elim (cases_Bool (test x)) [
+  | inl own ↦
+      let it : find test (x ∷ xs) ≡ Some x = rw own refl in
+      let same : x ≡ y = (let somes : Some x ≡ Some y = sym it ∙ is in cc) in
+      let e : at x ≡ at y = ap at same in
+      omega (arith, rise.0)
+  | inr other ↦
+      let rest : find test (x ∷ xs) ≡ find test xs = rw other refl in
+      omega (arith, rise.0, above-find at test (at x) xs y rise.1 (sym rest ∙ is))
+]
+
 -- what is found first of a rising list has the least place of all that pass
 pub least : {X : Type 0} (at : X → ℕ) (test : X → Bool) (low : ℕ) (xs : List X) (x y : X)
     (k : ℕ) → Rise at low xs → find test xs ≡ Some x → slice_get xs k ≡ Some y →

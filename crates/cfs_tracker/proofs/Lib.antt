@@ -18,3 +18,5 @@ pub mod JobSteps
 pub mod Leasts
 pub mod Windows
 pub mod Behind
+pub mod Named
+pub mod HandedOut

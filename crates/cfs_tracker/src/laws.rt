@@ -10,6 +10,7 @@ ghost use Rattle.cfs_core.specs.After.{after};
 ghost use Rattle.cfs_tracker.specs.declared.pending.Pending.{Pending};
 ghost use Rattle.cfs_tracker.specs.Follows.{Follows};
 ghost use Rattle.cfs_tracker.specs.Least.{NoEntryIsLess, NoReadIsLess, NoneIsLessForReads};
+ghost use Rattle.cfs_tracker.specs.Mark.{NamedMayBeMarked};
 ghost use Rattle.cfs_tracker.specs.New.{IsLoaded};
 ghost use Rattle.cfs_tracker.specs.View.{entry_at, view_of};
 
@@ -48,5 +49,10 @@ impl<S, D, B> Tracker<S, D, B> {
             Follows (view_of self.now) core →
             entry_at (view_of self.now).entries place ≡ Some entry →
             core.doubt ≡ Some doubt → place < doubt.entry.place }
+    {}
+    /// What `next_mark` names may be marked, once its slots are out.
+    pub fn named_may_be_marked(&self)
+        ensures { (core : Core) → Follows (view_of self.now) core →
+            NamedMayBeMarked (view_of self.now) }
     {}
 }
