@@ -114,7 +114,8 @@ impl<R: Region + Drop> NsState<R> {
         ensures whole { IfOk result (λ opened. out_slots opened.queue ≡ []) }
         ensures step { IfOk result (λ opened.
             open_step (names_of self.old) caller flags
-            (free_queue (names_of self.old).grants) looked ≡ Some (granted opened.grant, names_of self.new)) }
+            (free_queue (names_of self.old).grants) looked
+            ≡ Some (granted opened.grant, names_of self.new)) }
     {
         let opening = match looked {
             Ok(opening) => opening,

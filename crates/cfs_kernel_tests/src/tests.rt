@@ -289,6 +289,20 @@ fn two_hundred_and_fifty_six_records(rt: HostRuntime) -> Result<(), Fail> {
     Ok(())
 }
 
+/// Takes a removed file back, if there is one at the record.
+fn keep(state: &mut NsState<MemRegion>, rec: u32) {
+    if state.removed().get(rec).is_some() {
+        state.kept(rec);
+    }
+}
+
+/// Frees the record of a removed file, if there is one.
+fn free(state: &mut NsState<MemRegion>, rec: u32) {
+    if state.removed().get(rec).is_some() {
+        state.freed(rec);
+    }
+}
+
 /// A removed file keeps its record while a grant is for it, and until it is purged.
 #[test]
 fn removed_files_keep_their_records(rt: HostRuntime) -> Result<(), Fail> {
@@ -313,15 +327,11 @@ fn removed_files_keep_their_records(rt: HostRuntime) -> Result<(), Fail> {
         })
     );
     assert_eq!(rt; bench.state.dying(8), None);
-    if bench.state.removed().get(1).is_some() {
-        bench.state.kept(1);
-    }
+    keep(&mut bench.state, 1);
     assert_eq!(rt; bench.state.dying(8), Some((1, 2)));
     bench.play(&rt, "10 mkdir:755 /e at 5 ino 4\n")?;
     assert_eq!(rt; bench.state.tree().node(3).map(|node| node.ino), Some(4));
-    if bench.state.removed().get(1).is_some() {
-        bench.state.freed(1);
-    }
+    free(&mut bench.state, 1);
     bench.play(&rt, "10 mkdir:755 /g at 6 ino 5\n")?;
     assert_eq!(rt; bench.state.tree().node(1).map(|node| node.ino), Some(5));
     Ok(())
