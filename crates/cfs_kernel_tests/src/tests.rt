@@ -3,7 +3,6 @@ ghost use Rattle.std.specs.Prelude.{◌≤◌};
 use cfs_cred::Credential;
 use cfs_dir::Path;
 use cfs_fresh::ns_state;
-use cfs_grants::Removed;
 use cfs_kernel::{NsRefusal, NsState};
 use cfs_pmem::{MemRegion, Meter};
 use cfs_queue::Queue;
@@ -65,6 +64,49 @@ fn placed(alloc: Global, answer: Result<u64, NsRefusal>) -> Result<String, Fail>
     match answer {
         Ok(place) => Ok(format!(in alloc; "at {place}")?),
         Err(refusal) => refused(alloc, refusal),
+    }
+}
+
+/// The inode number of the node at a record; 0 without a node.
+fn ino_at(state: &NsState<MemRegion>, rec: u32) -> u64 {
+    match state.tree().node(rec) {
+        Some(node) => node.ino,
+        None => 0,
+    }
+}
+
+/// The removed file that a pass is given.
+fn dying(state: &mut NsState<MemRegion>, by: u64) -> Option<(u32, u64)> {
+    state.dying(by)
+}
+
+/// Takes a removed file back; whether there is one at the record.
+fn keep(state: &mut NsState<MemRegion>, rec: u32) -> bool {
+    if state.removed().get(rec).is_none() {
+        return false;
+    }
+    state.kept(rec);
+    true
+}
+
+/// Frees the record of a removed file; whether there is one.
+fn free(state: &mut NsState<MemRegion>, rec: u32) -> bool {
+    if state.removed().get(rec).is_none() {
+        return false;
+    }
+    state.freed(rec);
+    true
+}
+
+fn told(alloc: Global, done: bool) -> Result<String, Fail> {
+    let word = if done { "done" } else { "none" };
+    Ok(format!(in alloc; "{word}")?)
+}
+
+fn told_dying(alloc: Global, given: Option<(u32, u64)>) -> Result<String, Fail> {
+    match given {
+        Some((rec, ino)) => Ok(format!(in alloc; "rec {rec} ino {ino}")?),
+        None => Ok(format!(in alloc; "none")?),
     }
 }
 
@@ -138,6 +180,16 @@ impl Bench {
         }
     }
 
+    /// What is told of a record, or of the removed file that a pass is given.
+    fn look(&mut self, request: &str, number: u32) -> Result<String, Fail> {
+        match request {
+            "dying" => told_dying(self.alloc, dying(&mut self.state, u64::from(number))),
+            "kept" => told(self.alloc, keep(&mut self.state, number)),
+            "freed" => told(self.alloc, free(&mut self.state, number)),
+            _ => Ok(format!(in self.alloc; "ino {}", ino_at(&self.state, number))?),
+        }
+    }
+
     /// What a request of a user answers; `open:FLAGS:MODE`, `mkdir:MODE`, `rename:FROM`.
     fn answer(&mut self, uid: u32, request: &str, path: &str) -> Result<String, Fail> {
         let mut words = request.splitn(3, ':');
@@ -149,6 +201,7 @@ impl Bench {
             "mkdir" => self.make_dir(uid, first, path),
             "rename" => self.rename(uid, first, path),
             "close" => self.close(),
+            "dying" | "kept" | "freed" | "node" => self.look(name, path.parse::<u32>()?),
             _ => self.remove(uid, name, path),
         }
     }
@@ -267,83 +320,53 @@ fn one_queue_is_given_once(rt: HostRuntime) -> Result<(), Fail> {
     begun(rt.alloc(), 0)?.play(&rt, "10 open:rc /f all 0 queues are out\n")
 }
 
-#[test]
-fn two_hundred_and_fifty_six_records(rt: HostRuntime) -> Result<(), Fail> {
-    let mut bench = begun(rt.alloc(), 2)?;
-    for number in 1..256u64 {
-        let path = format!(in rt.alloc(); "/n{number}")?;
-        bench.make_dir(10, "755", path.as_str())?;
-    }
-    bench.play(
-        &rt,
-        "\
+const FULL: &str = "\
 10 mkdir:755 /x all 256 records are used
 10 open:rc /x all 256 records are used
 10 mkdir:755 /n7 EEXIST after 255 requests
 10 rmdir /n7 at 256
 10 mkdir:755 /x at 257 ino 257
+0 node 7 ino 257
 10 mkdir:755 /y all 256 records are used
-",
-    )?;
-    assert_eq!(rt; bench.state.tree().node(7).map(|node| node.ino), Some(257));
-    Ok(())
+";
+
+/// Makes a directory in each record but the root's.
+fn filled(alloc: Global) -> Result<Bench, Fail> {
+    let mut bench = begun(alloc, 2)?;
+    for number in 1..256u64 {
+        let path = format!(in alloc; "/n{number}")?;
+        bench.make_dir(10, "755", path.as_str())?;
+    }
+    Ok(bench)
 }
 
-/// Takes a removed file back, if there is one at the record.
-fn keep(state: &mut NsState<MemRegion>, rec: u32) {
-    if state.removed().get(rec).is_some() {
-        state.kept(rec);
-    }
-}
-
-/// Frees the record of a removed file, if there is one.
-fn free(state: &mut NsState<MemRegion>, rec: u32) {
-    if state.removed().get(rec).is_some() {
-        state.freed(rec);
-    }
+#[test]
+fn two_hundred_and_fifty_six_records(rt: HostRuntime) -> Result<(), Fail> {
+    filled(rt.alloc())?.play(&rt, FULL)
 }
 
 /// A removed file keeps its record while a grant is for it, and until it is purged.
-#[test]
-fn removed_files_keep_their_records(rt: HostRuntime) -> Result<(), Fail> {
-    let mut bench = begun(rt.alloc(), 4)?;
-    bench.play(
-        &rt,
-        "\
+const REMOVED: &str = "\
 10 open:rwc /f at 1 grant 1 ino 2 rec 1 queue 0
 10 unlink /f at 2
 10 mkdir:755 /d at 3 ino 3
-",
-    )?;
-    assert_eq!(rt; bench.state.dying(9), None);
-    assert_eq!(rt; bench.state.tree().node(2).map(|node| node.ino), Some(3));
-    bench.play(&rt, "10 close - at 4\n")?;
-    assert_eq!(rt; bench.state.dying(9), Some((1, 2)));
-    assert_eq!(rt;
-        bench.state.removed().get(1),
-        Some(Removed {
-            ino: 2,
-            by: Some(9)
-        })
-    );
-    assert_eq!(rt; bench.state.dying(8), None);
-    keep(&mut bench.state, 1);
-    assert_eq!(rt; bench.state.dying(8), Some((1, 2)));
-    bench.play(&rt, "10 mkdir:755 /e at 5 ino 4\n")?;
-    assert_eq!(rt; bench.state.tree().node(3).map(|node| node.ino), Some(4));
-    free(&mut bench.state, 1);
-    bench.play(&rt, "10 mkdir:755 /g at 6 ino 5\n")?;
-    assert_eq!(rt; bench.state.tree().node(1).map(|node| node.ino), Some(5));
-    Ok(())
-}
+0 dying 9 none
+0 node 2 ino 3
+10 close - at 4
+0 dying 9 rec 1 ino 2
+0 dying 8 none
+0 kept 1 done
+0 dying 8 rec 1 ino 2
+10 mkdir:755 /e at 5 ino 4
+0 node 3 ino 4
+0 freed 1 done
+0 freed 1 none
+10 mkdir:755 /g at 6 ino 5
+0 node 1 ino 5
+";
 
 /// A file that a rename replaces is a removed file, and a directory is none.
-#[test]
-fn replaced_files_wait(rt: HostRuntime) -> Result<(), Fail> {
-    let mut bench = begun(rt.alloc(), 4)?;
-    bench.play(
-        &rt,
-        "\
+const REPLACED: &str = "\
 10 open:rwc /f at 1 grant 1 ino 2 rec 1 queue 0
 10 open:rwc /g at 2 grant 2 ino 3 rec 2 queue 1
 10 rename:/f /g at 3
@@ -351,14 +374,17 @@ fn replaced_files_wait(rt: HostRuntime) -> Result<(), Fail> {
 10 mkdir:755 /e at 5 ino 5
 10 rename:/d /e at 6
 10 mkdir:755 /h at 7 ino 6
-",
-    )?;
-    assert_eq!(rt; bench.state.tree().node(4).map(|node| node.ino), Some(6));
-    assert_eq!(rt; bench.state.dying(1), None);
-    bench.play(&rt, "10 close - at 8\n")?;
-    assert_eq!(rt; bench.state.dying(1), Some((2, 3)));
-    assert_eq!(rt; bench.state.dying(1), None);
-    Ok(())
+0 node 4 ino 6
+0 dying 1 none
+10 close - at 8
+0 dying 1 rec 2 ino 3
+0 dying 1 none
+";
+
+#[test]
+fn removed_files_keep_their_records(rt: HostRuntime) -> Result<(), Fail> {
+    begun(rt.alloc(), 4)?.play(&rt, REMOVED)?;
+    begun(rt.alloc(), 4)?.play(&rt, REPLACED)
 }
 
 /// A request that stops at a step takes no place, and what it would have made is none.
