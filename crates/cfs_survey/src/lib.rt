@@ -1,0 +1,7 @@
+//! The checks on the words and bytes of a whole store.
+#![tactic(auto)]
+
+mod fault;
+mod fields;
+
+pub use fault::Fault;
