@@ -1,5 +1,6 @@
 -- What a survey answers, and the plainest checks of one number.
-use Rattle.std.specs.Prelude.{ℕ, ◌==◌, nat_le, Option, Some, None, Result, Ok, Err}
+use Rattle.std.specs.Prelude.{ℕ, ◌==◌, nat_le, List, Option, Some, None, Result, Ok, Err}
+use Rattle.std.specs.List.{flat_map, range_with_len}
 use Rattle.cfs_image.specs.Checks.{Check, Damage, check}
 use Rattle.cfs_survey.specs.declared.fault.Fault.{Fault}
 
@@ -22,3 +23,7 @@ at_least bound offset found = check (nat_le bound found) offset found bound
 
 abbrev pub at_most : ℕ → ℕ → ℕ → Check
 at_most bound offset found = check (nat_le found bound) offset found bound
+
+-- the checks of n numbers, from one on
+unfoldable pub checks_from : (ℕ → List Check) → ℕ → ℕ → List Check
+checks_from each from n = flat_map each (range_with_len from n)

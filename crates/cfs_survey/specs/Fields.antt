@@ -1,10 +1,10 @@
 -- The checks of the twelve words of a node by themselves. `at` is the offset of the first word.
-use Rattle.std.specs.Prelude.{ℕ, ◌+◌, ◌==◌, ◌||◌, not, nat_lt, Bool, List, [], ◌∷◌, ◌++◌, get_or, map, take, drop, if◌then◌else◌}
+use Rattle.std.specs.Prelude.{ℕ, ◌+◌, ◌==◌, ◌||◌, not, nat_lt, Bool, List, [], ◌∷◌, ◌++◌, get_or, take, drop, if◌then◌else◌}
 use Rattle.std.specs.Int.{w64, to_le_bytes}
-use Rattle.std.specs.List.{flat_map, range_with_len}
+use Rattle.std.specs.List.{flat_map}
 use Rattle.cfs_dir.specs.Name.{is_dots, is_name_byte}
 use Rattle.cfs_image.specs.Checks.{Check, check}
-use Rattle.cfs_survey.specs.Faults.{at_least, at_most, equal}
+use Rattle.cfs_survey.specs.Faults.{at_least, at_most, checks_from, equal}
 
 abbrev pub largest_id : ℕ
 largest_id = 4294967295
@@ -32,14 +32,16 @@ kind_check at kind = check ((kind == 1) || (kind == 2)) (at + 16) kind 2
 abbrev pub name_room : List ℕ → List ℕ
 name_room words = flat_map (to_le_bytes w64) (take 5 (drop 7 words))
 
--- the byte at k of this room may stand in a name, or is 0 where the name has ended
+-- whether a byte may stand at k in the room of a name of this length
+abbrev pub fits : ℕ → ℕ → ℕ → Bool
+fits byte k len = if nat_lt k len then is_name_byte byte else byte == 0
+
 abbrev pub byte_check : ℕ → ℕ → List ℕ → ℕ → Check
 byte_check at len room k =
-    check (if nat_lt k len then is_name_byte (get_or room k 0) else get_or room k 0 == 0)
-    (at + 56 + k) (get_or room k 0) 0
+    check (fits (get_or room k 0) k len) (at + 56 + k) (get_or room k 0) 0
 
 abbrev pub byte_checks : ℕ → ℕ → List ℕ → List Check
-byte_checks at len room = map (byte_check at len room) (range_with_len 0 40)
+byte_checks at len room = checks_from (λ k. byte_check at len room k ∷ []) 0 40
 
 -- the name's length, each of its bytes, and that it is not `.` or `..`
 abbrev pub name_checks : ℕ → ℕ → List ℕ → List Check

@@ -1,5 +1,5 @@
 //! What is wrong first.
-ghost use Rattle.std.specs.Prelude.{◌≡◌, [], ◌∷◌};
+ghost use Rattle.std.specs.Prelude.{◌≡◌, true, [], ◌∷◌, OnOk};
 ghost use Rattle.cfs_image.specs.Checks.{check, damage_of};
 ghost use Rattle.cfs_survey.specs.Faults.{reported};
 
@@ -19,7 +19,8 @@ pub struct Fault {
 
 /// Refuses by naming this fault, unless the check holds.
 pub(crate) fn ensure(holds: bool, offset: u64, found: u64, against: u64) -> Result<(), Fault>
-    ensures { reported result ≡ damage_of (check holds offset found against ∷ []) }
+    ensures passed { OnOk result (holds ≡ true) }
+    ensures named { reported result ≡ damage_of (check holds offset found against ∷ []) }
 {
     if holds {
         Ok(())

@@ -3,5 +3,6 @@
 
 mod fault;
 mod fields;
+mod names;
 
 pub use fault::Fault;
