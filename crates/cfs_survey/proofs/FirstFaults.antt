@@ -1,9 +1,10 @@
 -- The first check that fails, of lists that are put together.
-use Rattle.std.proofs.Common.{◌≡◌, ℕ, ◌+◌, ◌<◌, suc, zero, List, [], ◌∷◌, ◌++◌, true, false, Bool, refl, sym, ◌∙◌, ap, arith}
+use Rattle.std.proofs.Common.{◌≡◌, ℕ, ◌+◌, ◌<◌, suc, zero, List, length, get_or, take, drop, [], ◌∷◌, ◌++◌, true, false, Bool, refl, sym, ◌∙◌, ap, arith}
 use Rattle.std.specs.Prelude.{Option, Some, None, if◌then◌else◌}
 use Rattle.std.specs.List.{flat_map, range_with_len}
 use Rattle.std.specs.Option.{option_or}
-use Rattle.std.proofs.lemmas.Grind.{flat_map-append}
+use Rattle.std.proofs.lemmas.Grind.{flat_map-append, take_at_read}
+use Rattle.std.proofs.lemmas.List.{take-append-drop}
 use Rattle.cfs_image.specs.Checks.{Check, Damage, damage_of}
 use Rattle.cfs_survey.specs.Faults.{checks_from}
 
@@ -55,6 +56,22 @@ damage_append (x ∷ xs) ys = split x.holds (damage_append xs ys)
     split true deeper = deeper
     split false deeper = refl
 
+-- both parts hold where the whole does
+pub sound_parts : (xs ys : List Check) → damage_of (xs ++ ys) ≡ None → (damage_of xs ≡ None) × (damage_of ys ≡ None)
+sound_parts xs ys sound = split (damage_of xs) (damage_of ys) (sym (damage_append xs ys) ∙ sound)
+  where
+    split : (x y : Option Damage) → option_or x y ≡ None → (x ≡ None) × (y ≡ None)
+    split None y e = (refl, e)
+    split (Some d) y e = absurd (cc)
+
+-- a check that names nothing holds
+pub passed : (x : Check) → damage_of (x ∷ []) ≡ None → x.holds ≡ true
+passed x h = split x.holds h
+  where
+    split : (holds : Bool) → (if holds then None else Some x.damage) ≡ None → holds ≡ true
+    split true e = refl
+    split false e = absurd (cc)
+
 -- no number's checks fail where there is no number
 pub none_yet : (each : ℕ → List Check) (from : ℕ) → damage_of (checks_from each from 0) ≡ None
 unfolding checks_from
@@ -81,5 +98,33 @@ fails_at each from k n at damage e below before here =
     ∙ ap damage_of (flat_map-append each (range_with_len from k) (at ∷ around.0))
     ∙ behind_sound (flat_map each (range_with_len from k)) (each at ++ flat_map each around.0) before
     ∙ before_others (each at) (flat_map each around.0) damage here
+
+-- where the checks of all numbers hold, those of each do
+pub holds_at : (each : ℕ → List Check) (from n k at : ℕ) → from + k ≡ at → k < n → damage_of (checks_from each from n) ≡ None → damage_of (each at) ≡ None
+unfolding checks_from
+holds_at each from n k at e below sound =
+    let around = range_around from k n at e below in
+    let whole : damage_of (flat_map each (range_with_len from k) ++ (each at ++ flat_map each around.0)) ≡ None =
+    sym (ap (λ xs. damage_of (flat_map each xs)) around.1 ∙ ap damage_of (flat_map-append each (range_with_len from k) (at ∷ around.0))) ∙ sound in
+    (sound_parts (each at) (flat_map each around.0) (sound_parts (flat_map each (range_with_len from k)) (each at ++ flat_map each around.0) whole).1).0
+
+-- the same over the members of a list
+pub sound_taken : {A : Type 0} (each : A → List Check) (xs : List A) (i : ℕ) (d : A) → i < length xs → damage_of (flat_map each (take i xs)) ≡ None
+    → damage_of (each (get_or xs i d)) ≡ None → damage_of (flat_map each (take (i + 1) xs)) ≡ None
+sound_taken each xs i d below before here =
+    ap (λ ys. damage_of (flat_map each ys)) (take_at_read xs i d below).1
+    ∙ ap damage_of (flat_map-append each (take i xs) (get_or xs i d ∷ []))
+    ∙ behind_sound (flat_map each (take i xs)) (each (get_or xs i d) ++ []) before
+    ∙ behind_sound (each (get_or xs i d)) [] here
+
+pub fails_taken : {A : Type 0} (each : A → List Check) (xs : List A) (i : ℕ) (d : A) (damage : Damage) → i < length xs
+    → damage_of (flat_map each (take i xs)) ≡ None → damage_of (each (get_or xs i d)) ≡ Some damage → damage_of (flat_map each xs) ≡ Some damage
+fails_taken each xs i d damage below before here =
+    ap (λ ys. damage_of (flat_map each ys)) (sym (take-append-drop (i + 1) xs) ∙ ap (λ ys. ys ++ drop (i + 1) xs) (take_at_read xs i d below).1)
+    ∙ ap damage_of (flat_map-append each (take i xs ++ get_or xs i d ∷ []) (drop (i + 1) xs))
+    ∙ before_others (flat_map each (take i xs ++ get_or xs i d ∷ [])) (flat_map each (drop (i + 1) xs)) damage
+    (ap damage_of (flat_map-append each (take i xs) (get_or xs i d ∷ []))
+    ∙ behind_sound (flat_map each (take i xs)) (each (get_or xs i d) ++ []) before
+    ∙ before_others (each (get_or xs i d)) [] damage here)
 
 pub ruleset first_faults = (damage_append, none_yet)

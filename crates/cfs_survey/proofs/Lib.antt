@@ -1,1 +1,5 @@
 pub mod FirstFaults
+pub mod NameLemmas
+pub mod RefusalLemmas
+pub mod RootLemmas
+pub mod TableLemmas

@@ -2,6 +2,8 @@
 use Rattle.std.specs.Prelude.{ℕ, ◌+◌, ◌==◌, ◌||◌, not, nat_lt, Bool, List, [], ◌∷◌, ◌++◌, get_or, take, drop, if◌then◌else◌}
 use Rattle.std.specs.Int.{w64, to_le_bytes}
 use Rattle.std.specs.List.{flat_map}
+use Rattle.cfs_dir.specs.declared.kind.Kind.{Kind}
+use Rattle.cfs_dir.specs.declared.kind.Kind.TheVariants.{Directory, File}
 use Rattle.cfs_dir.specs.Name.{is_dots, is_name_byte}
 use Rattle.cfs_image.specs.Checks.{Check, check}
 use Rattle.cfs_survey.specs.Faults.{at_least, at_most, checks_from, equal}
@@ -17,13 +19,16 @@ owner_checks at words =
     ∷ at_most largest_id (at + 40) (get_or words 5 0) ∷ []
 
 -- the root is its own parent, a directory without a name; the words of its name are not looked at
-abbrev pub root_checks : ℕ → List ℕ → List Check
+unfoldable pub root_checks : ℕ → List ℕ → List Check
 root_checks at words =
     equal 1 at (get_or words 0 0)
     ∷ equal 1 (at + 8) (get_or words 1 0)
     ∷ equal 2 (at + 16) (get_or words 2 0)
     ∷ equal 0 (at + 48) (get_or words 6 0)
     ∷ owner_checks at words
+
+abbrev pub kind_in : ℕ → Kind
+kind_in kind = if kind == 2 then Directory else File
 
 abbrev pub kind_check : ℕ → ℕ → Check
 kind_check at kind = check ((kind == 1) || (kind == 2)) (at + 16) kind 2

@@ -1,2 +1,5 @@
 pub mod Faults
 pub mod Fields
+pub mod Places
+pub mod Refusals
+pub mod Tables

@@ -4,5 +4,10 @@
 mod fault;
 mod fields;
 mod names;
+mod places;
+mod refusal;
+mod table;
 
 pub use fault::Fault;
+pub use refusal::SurveyRefusal;
+pub use table::read_table;
