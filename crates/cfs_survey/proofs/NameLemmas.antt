@@ -25,9 +25,12 @@ pub IsName-from_checks : (at len : ℕ) (room : List ℕ) → length room ≡ 40
     → IsName (take len room)
 IsName-from_checks at len room size low high sound =
     let front : length (take len room) ≡ len = length-take-le len room (omega arith) in
-    let each = λ (k : ℕ). byte_check at len room k ∷ [] in
-    (omega arith, omega arith, All-from_get_or (λ byte. IsTrue (is_name_byte byte)) (take len room) 0 (λ i below.
-        let within : i < len = omega arith in
-        let here : fits (get_or room i 0) i len ≡ true = passed (byte_check at len room i) (holds_at each 0 40 i i (omega arith) (omega arith) sound) in
-        let same : get_or (take len room) i 0 ≡ get_or room i 0 = get_or-take len room i 0 within in
-        ap is_name_byte same ∙ first_branch (nat_lt i len) (is_name_byte (get_or room i 0)) _ (lt-ltb i len within) here))
+    let each = λ (k : ℕ). byte_check at len room k ∷ [] in (
+      omega arith,
+      omega arith,
+      All-from_get_or (λ byte. IsTrue (is_name_byte byte)) (take len room) 0 (λ i below.
+          let within : i < len = omega arith in
+          let here : fits (get_or room i 0) i len ≡ true = passed (byte_check at len room i) (holds_at each 0 40 i i (omega arith) (omega arith) sound) in
+          let same : get_or (take len room) i 0 ≡ get_or room i 0 = get_or-take len room i 0 within in
+          ap is_name_byte same ∙ first_branch (nat_lt i len) (is_name_byte (get_or room i 0)) _ (lt-ltb i len within) here),
+    )
