@@ -1,5 +1,5 @@
 -- That the bytes of a name that passes its checks are those of a name.
-use Rattle.std.proofs.Common.{◌≡◌, ℕ, ◌+◌, ◌<◌, ◌≤◌, [], ◌∷◌, List, length, get_or, take, true, false, Bool, refl, ◌∙◌, ap, arith}
+use Rattle.std.proofs.Common.{◌≡◌, ℕ, ◌<◌, ◌≤◌, [], ◌∷◌, List, length, get_or, take, true, false, Bool, refl, ◌∙◌, ap, arith}
 use Rattle.std.specs.Prelude.{None, IsTrue, not, nat_lt, Result, Ok, Err, OnOk, if◌then◌else◌}
 use Rattle.std.proofs.lemmas.Bool.{lt-ltb}
 use Rattle.std.proofs.lemmas.List.{length-take-le, get_or-take}

@@ -1,6 +1,6 @@
 -- The refusals of checks that are put together.
 use Rattle.std.proofs.Common.{◌≡◌, List, ◌++◌, sym, ◌∙◌, subst}
-use Rattle.std.specs.Prelude.{None, Some, Result, Ok, Err, IfErr}
+use Rattle.std.specs.Prelude.{None, Result, Err, IfErr}
 use Rattle.cfs_image.specs.Checks.{Check, damage_of}
 use Rattle.cfs_survey.specs.declared.refusal.SurveyRefusal.{SurveyRefusal}
 use Rattle.cfs_survey.specs.declared.refusal.SurveyRefusal.TheVariants.{Damaged, NoMemory}

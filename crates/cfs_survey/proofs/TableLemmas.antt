@@ -1,6 +1,7 @@
 -- The nodes of a table, record by record.
-use Rattle.std.proofs.Common.{◌≡◌, ℕ, ◌+◌, ◌*◌, ◌<◌, ◌≤◌, zero, suc, List, [], ◌∷◌, ◌++◌, get_or, take, drop, true, false, Bool, refl, sym, ◌∙◌, ap, subst, arith}
-use Rattle.std.specs.Prelude.{◌==◌, if◌then◌else◌}
+use Rattle.std.proofs.Common.{◌≡◌, ℕ, ◌+◌, ◌*◌, ◌<◌, zero, suc, List, [], ◌∷◌, ◌++◌, get_or, take, drop, true, false, Bool, sym, ◌∙◌, ap, arith}
+use Rattle.std.proofs.lemmas.List.Elements.{All-cons, All-nil, All-weaker}
+use Rattle.std.specs.Prelude.{All, ◌==◌, if◌then◌else◌}
 use Rattle.std.proofs.lemmas.List.{get_or-take}
 use Rattle.std.proofs.lemmas.List.{drop-drop}
 use Rattle.cfs_dir.specs.declared.node.Node.{Node}
@@ -40,3 +41,16 @@ pub below_first : (words : List ℕ) → get_or (row words 0) 0 0 ≡ 1 → node
 unfolding nodes_in
 below_first words root =
     below_next words 0 ∙ ap (λ ino. if ino == 0 then [] else node_in 0 (row words 0) ∷ []) root
+
+split_all : (P : Node → Type 0) (b : Bool) (x : Node) (xs : List Node) → P x → All P xs → All P (if b then xs else x ∷ xs)
+split_all P true x xs p all = all
+split_all P false x xs p all = All-cons P x xs p all
+
+-- the nodes of n records have their numbers
+pub nodes_in-records : (n first : ℕ) (words : List ℕ) → All (λ node. node.rec < first + n) (nodes_in n first words)
+unfolding nodes_in
+nodes_in-records zero first words = All-nil (λ node. node.rec < first + zero)
+nodes_in-records (suc n) first words =
+    split_all (λ node. node.rec < first + suc n) (get_or words 0 0 == 0) (node_in first (take 12 words)) (nodes_in n (suc first) (drop 12 words))
+    (let here : first < first + suc n = omega arith in here)
+    (All-weaker (λ node. node.rec < suc first + n) (λ node. node.rec < first + suc n) (λ node below. omega arith) (nodes_in n (suc first) (drop 12 words)) (nodes_in-records n (suc first) (drop 12 words)))

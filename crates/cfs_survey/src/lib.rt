@@ -6,8 +6,10 @@ mod fields;
 mod names;
 mod places;
 mod refusal;
+mod sizes;
 mod table;
 
 pub use fault::Fault;
 pub use refusal::SurveyRefusal;
+pub use sizes::check_sizes;
 pub use table::read_table;

@@ -1,5 +1,5 @@
 //! A table of the tree's nodes.
-ghost use Rattle.std.specs.Prelude.{◌≡◌, ◌<◌, ◌^◌, ◌++◌, [], ◌∷◌, IfErr, IfOk, OnOk, None, drop, length, option_to_list};
+ghost use Rattle.std.specs.Prelude.{All, ◌≡◌, ◌<◌, ◌^◌, ◌++◌, [], ◌∷◌, IfErr, IfOk, OnOk, None, drop, length, option_to_list};
 ghost use Rattle.std.proofs.Math.ListN.{get_or};
 ghost use Rattle.cfs_dir.specs.Words.{node_in, table_in};
 ghost use Rattle.cfs_image.specs.Checks.{damage_of};
@@ -116,6 +116,7 @@ pub fn read_table(alloc: Global, at: u64, words: &[u64]) -> Result<Vec<Node>, Su
     requires size { length words.now ≡ 3073 }
     ensures sound { OnOk result (damage_of (table_checks at words.now) ≡ None) }
     ensures nodes { IfOk result (λ nodes. nodes.items ≡ (table_in words.now).nodes) }
+    ensures records { IfOk result (λ nodes. All (λ node. node.rec < 256) nodes.items) }
     ensures named { IfErr result (Refuses (table_checks at words.now)) }
 {
     check_next(at, words[0])?;

@@ -1,4 +1,4 @@
-use cfs_survey::{Fault, SurveyRefusal, read_table};
+use cfs_survey::{Fault, SurveyRefusal, check_sizes, read_table};
 use std::alloc::Global;
 use std::process::Abort;
 use std::test::Fail;
@@ -177,6 +177,34 @@ fn nodes_are_read(rt: HostRuntime) -> Result<(), Fail> {
                 .get(2)
                 .is_some_and(|node| node.name.as_bytes() == b"fg".as_slice())
         );
+    }
+    Ok(())
+}
+
+/// Where the size words begin.
+const SIZES_AT: u64 = 57_400;
+
+#[test]
+fn sizes_of_files(rt: HostRuntime) -> Result<(), Fail> {
+    let words = table(rt.alloc())?;
+    if words.len() == 3073 {
+        let nodes = read_table(rt.alloc(), AT, &words)?;
+        let mut sizes = [0; 256];
+        // Directories and free records.
+        for rec in [0, 1, 3, 255] {
+            sizes[rec] = u64::MAX;
+        }
+        sizes[4] = 1_048_576;
+        assert!(rt; check_sizes(SIZES_AT, &sizes, &nodes).is_ok());
+        for (rec, size, offset) in [(4, u64::MAX, 57_432), (2, 1_048_577, 57_416)] {
+            sizes[rec] = size;
+            let fault = Fault {
+                offset,
+                found: size,
+                against: 1_048_576,
+            };
+            assert!(rt; check_sizes(SIZES_AT, &sizes, &nodes) == Err(fault));
+        }
     }
     Ok(())
 }

@@ -1,4 +1,4 @@
-use Rattle.std.proofs.Common.{◌≡◌, ◌∙◌, ◌∷◌, [], ℕ, Some, sym, ap, arith}
+use Rattle.std.proofs.Common.{◌∙◌, ◌∷◌, [], ℕ, Some, sym, ap, arith}
 use Rattle.std.proofs.lemmas.Result.{err_from_is_err_and}
 use Rattle.cfs_survey.specs.Faults.{damage_in, reported}
 use Rattle.cfs_survey.specs.Fields.{byte_check}

@@ -1,6 +1,6 @@
-use Rattle.std.proofs.Common.{◌≡◌, ◌∙◌, sym, true, false, take, ℕ, ◌≤◌}
+use Rattle.std.proofs.Common.{◌≡◌, ◌∙◌, sym, true, take, ◌≤◌}
 use Rattle.std.specs.Prelude.{not}
-use Rattle.cfs_dir.specs.Name.{IsNodeName, is_dots}
+use Rattle.cfs_dir.specs.Name.{IsNodeName}
 use Rattle.cfs_survey.proofs.NameLemmas.{IsName-from_checks, not_true, on_ok}
 use Rattle.std.proofs.lemmas.Bool.{leb-true}
 use Rattle.cfs_survey.proofs.names.check_name.Goals as goal

@@ -1,4 +1,4 @@
-use Rattle.std.proofs.Common.{◌≡◌, ◌≢◌, ◌-◌, ◌∙◌, ℕ, suc, Some, None, false, sym, ap, arith, rules}
+use Rattle.std.proofs.Common.{◌≡◌, ◌-◌, ◌∙◌, suc, false, sym, ap, arith}
 use Rattle.std.specs.Option.{option_map_or}
 use Rattle.cfs_dir.specs.Tree.{leads_to_root}
 use Rattle.cfs_survey.proofs.RootLemmas.{at_root, no_step_left, one_step}

@@ -1,4 +1,7 @@
-use Rattle.std.proofs.Common.{◌≡◌, ◌∙◌, ◌++◌, List, get_or, sym, ap}
+use Rattle.std.proofs.Common.{◌∙◌, ◌++◌, List, drop, get_or, sym, ap, ◌<◌}
+use Rattle.std.proofs.lemmas.List.Elements.{All-same}
+use Rattle.cfs_dir.specs.declared.node.Node.{Node}
+use Rattle.cfs_survey.proofs.TableLemmas.{nodes_in-records}
 use Rattle.std.proofs.lemmas.Result.{err_from_is_err_and}
 use Rattle.cfs_dir.specs.Words.{table_in}
 use Rattle.cfs_image.specs.Checks.{Check, damage_of}
@@ -51,3 +54,8 @@ returns-clause-sound c =
     ∙ behind_sound records places c.in_ok-nodes.ensures.sound
     ∙ ap (λ nodes. damage_of (places_checks c.args.at nodes)) (sym (c.deref.ensures.value ∙ c.in_ok-nodes.ensures.nodes))
     ∙ sym c.in_ok-check_places.ensures
+
+pub returns-clause-records : goal.returns-clause-records
+returns-clause-records c =
+    All-same (λ (node : Node). node.rec < 256) c.in_ok-nodes.nodes.items (table_in c.args.words.now).nodes c.in_ok-nodes.ensures.nodes
+    (nodes_in-records 256 0 (drop 1 c.args.words.now))
