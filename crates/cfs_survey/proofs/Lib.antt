@@ -3,3 +3,4 @@ pub mod NameLemmas
 pub mod RefusalLemmas
 pub mod RootLemmas
 pub mod TableLemmas
+pub mod TreeLemmas
