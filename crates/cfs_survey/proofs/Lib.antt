@@ -4,3 +4,5 @@ pub mod RefusalLemmas
 pub mod RootLemmas
 pub mod TableLemmas
 pub mod TreeLemmas
+pub mod RowLemmas
+pub mod RecordLemmas
