@@ -6,3 +6,5 @@ pub mod TableLemmas
 pub mod TreeLemmas
 pub mod RowLemmas
 pub mod RecordLemmas
+pub mod TwinLemmas
+pub mod WholeLemmas

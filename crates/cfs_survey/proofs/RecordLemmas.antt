@@ -1,15 +1,15 @@
 -- What the records of a table that pass their checks say of its nodes.
-use Rattle.std.proofs.Common.{◌≡◌, ◌≢◌, ℕ, ◌+◌, ◌<◌, ◌≤◌, zero, suc, List, [], ◌∷◌, ◌++◌, length, get_or, take, drop, true, false, Bool, refl, sym, ◌∙◌, ap, subst, arith, eq-eqb, append-nil}
+use Rattle.std.proofs.Common.{◌≡◌, ◌≢◌, ℕ, ◌+◌, ◌<◌, ◌≤◌, zero, suc, List, [], ◌∷◌, ◌++◌, length, get_or, take, true, false, Bool, refl, sym, ◌∙◌, ap, subst, arith, eq-eqb, append-nil}
 use Rattle.std.specs.Prelude.{All, None, Option, Some, find, is_none, nat_lt, cond, ◌==◌, if◌then◌else◌}
 use Rattle.std.specs.Option.{option_or}
-use Rattle.std.proofs.lemmas.Bool.{eqb-false, eqb-true, leb-true, ltb-true}
+use Rattle.std.proofs.lemmas.Bool.{eqb-false, eqb-true, ltb-true}
 use Rattle.std.proofs.lemmas.List.Elements.{All-append, All-cons, All-head, All-nil, All-push, All-weaker}
 use Rattle.std.proofs.lemmas.List.Folds.{find-append}
 use Rattle.cfs_dir.specs.declared.kind.Kind.TheVariants.{Directory, File}
 use Rattle.cfs_dir.specs.declared.node.Node.{Node}
 use Rattle.cfs_dir.specs.Namespace.{node_of}
 use Rattle.cfs_dir.specs.Tree.{IsRoot}
-use Rattle.cfs_dir.specs.Words.{node_in, nodes_in}
+use Rattle.cfs_dir.specs.Words.{node_in}
 use Rattle.cfs_image.specs.Checks.{Check, check, damage_of}
 use Rattle.cfs_survey.specs.Faults.{checks_from, equal}
 use Rattle.cfs_survey.specs.Fields.{field_checks, kind_check, name_checks, name_room, owner_checks, root_checks}
@@ -19,7 +19,7 @@ use Rattle.cfs_survey.proofs.FirstFaults.{holds_at, passed, sound_parts}
 use Rattle.cfs_survey.proofs.RowLemmas.{IsSoundNode, name_holds, name_size, owner_holds, row_size}
 use Rattle.cfs_survey.proofs.TableLemmas.{below_first, below_next}
 
-none_found : (found : Option Node) → is_none found ≡ true → found ≡ None
+pub none_found : (found : Option Node) → is_none found ≡ true → found ≡ None
 none_found None h = refl
 none_found (Some x) h = absurd (cc)
 

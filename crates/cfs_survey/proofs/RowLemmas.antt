@@ -1,18 +1,16 @@
 -- What the words of a record that pass their checks say of its node.
-use Rattle.std.proofs.Common.{◌≡◌, ◌≢◌, ℕ, ◌+◌, ◌-◌, ◌*◌, ◌<◌, ◌≤◌, zero, suc, List, [], ◌∷◌, ◌++◌, length, get_or, take, drop, true, false, Bool, refl, sym, ◌∙◌, ap, arith, length-append, length-drop}
-use Rattle.std.specs.Prelude.{All, not, None, nat_lt, ◌==◌, if◌then◌else◌}
+use Rattle.std.proofs.Common.{◌≡◌, ◌≢◌, ℕ, ◌+◌, ◌*◌, ◌<◌, ◌≤◌, List, [], ◌∷◌, ◌++◌, length, get_or, take, drop, refl, ◌∙◌, arith, length-append, length-drop}
+use Rattle.std.specs.Prelude.{not, None}
 use Rattle.std.specs.Int.{w64, to_le_bytes}
 use Rattle.std.specs.List.{flat_map}
-use Rattle.std.proofs.lemmas.Bool.{eqb-false, eqb-true, leb-true, ltb-true}
+use Rattle.std.proofs.lemmas.Bool.{leb-true}
 use Rattle.std.proofs.lemmas.List.{length-take-le}
-use Rattle.std.proofs.lemmas.List.Elements.{All-cons, All-nil}
 use Rattle.cfs_dir.specs.declared.node.Node.{Node}
 use Rattle.cfs_dir.specs.Name.{IsNodeName, is_dots}
-use Rattle.cfs_dir.specs.Words.{node_in}
-use Rattle.cfs_image.specs.Checks.{Check, check, damage_of}
-use Rattle.cfs_survey.specs.Faults.{at_least, at_most, equal}
-use Rattle.cfs_survey.specs.Fields.{byte_checks, field_checks, kind_check, largest_id, name_checks, name_room, owner_checks, root_checks}
-use Rattle.cfs_survey.specs.Tables.{nodes_below, number_checks, record_checks, row, row_at, standing}
+use Rattle.cfs_image.specs.Checks.{check, damage_of}
+use Rattle.cfs_survey.specs.Faults.{at_least, at_most}
+use Rattle.cfs_survey.specs.Fields.{byte_checks, largest_id, name_checks, name_room, owner_checks}
+use Rattle.cfs_survey.specs.Tables.{row}
 use Rattle.cfs_survey.proofs.FirstFaults.{passed, sound_parts}
 use Rattle.cfs_survey.proofs.NameLemmas.{IsName-from_checks, not_true}
 

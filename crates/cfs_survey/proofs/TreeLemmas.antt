@@ -1,5 +1,5 @@
 -- What a table that passes its checks says of its tree.
-use Rattle.std.proofs.Common.{◌≡◌, ℕ, ◌+◌, ◌<◌, ◌≤◌, zero, suc, List, [], ◌∷◌, ◌++◌, get_or, take, drop, true, false, Bool, refl, sym, ◌∙◌, subst, arith}
+use Rattle.std.proofs.Common.{◌≡◌, ℕ, ◌+◌, ◌≤◌, zero, suc, List, [], ◌∷◌, get_or, take, drop, true, false, Bool, refl, arith}
 use Rattle.std.specs.Prelude.{All, IsTrue, None, Option, Some, IsSomeAnd, ◌==◌, if◌then◌else◌}
 use Rattle.std.specs.List.{flat_map}
 use Rattle.std.specs.Option.{option_map_or}
@@ -13,7 +13,7 @@ use Rattle.cfs_dir.specs.Tree.{AreAscendingFrom, leads_to_root}
 use Rattle.cfs_dir.specs.Words.{node_in, nodes_in}
 use Rattle.cfs_image.specs.Checks.{Check, check, damage_of}
 use Rattle.cfs_survey.specs.Faults.{at_least, at_most}
-use Rattle.cfs_survey.specs.Places.{names_directory, place_checks, rec_of, twin_of}
+use Rattle.cfs_survey.specs.Places.{names_directory, place_checks}
 use Rattle.cfs_survey.specs.Tables.{next_checks, places_checks, row_at}
 use Rattle.cfs_survey.proofs.FirstFaults.{passed, sound_parts}
 

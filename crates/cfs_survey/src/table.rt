@@ -1,6 +1,7 @@
 //! A table of the tree's nodes.
 ghost use Rattle.std.specs.Prelude.{All, ◌≡◌, ◌<◌, ◌^◌, ◌++◌, [], ◌∷◌, IfErr, IfOk, OnOk, None, drop, length, option_to_list};
 ghost use Rattle.std.proofs.Math.ListN.{get_or};
+ghost use Rattle.cfs_dir.specs.Tree.{IsTree};
 ghost use Rattle.cfs_dir.specs.Words.{node_in, table_in};
 ghost use Rattle.cfs_image.specs.Checks.{damage_of};
 ghost use Rattle.cfs_survey.specs.Faults.{reported};
@@ -106,7 +107,7 @@ fn read_records(alloc: Global, at: u64, words: &[u64]) -> Result<Vec<Node>, Surv
     Ok(nodes)
 }
 
-/// The nodes of a table, by ascending record. It has 3073 words, which begin at this offset of an
+/// The nodes of a table, by ascending record, which are a tree. It has 3073 words, which begin at this offset of an
 /// image, below 2^32.
 ///
 /// `Damaged` names the first check that fails: of the next inode number, of each record by itself,
@@ -116,6 +117,7 @@ pub fn read_table(alloc: Global, at: u64, words: &[u64]) -> Result<Vec<Node>, Su
     requires size { length words.now ≡ 3073 }
     ensures sound { OnOk result (damage_of (table_checks at words.now) ≡ None) }
     ensures nodes { IfOk result (λ nodes. nodes.items ≡ (table_in words.now).nodes) }
+    ensures tree { IfOk result (λ nodes. IsTree nodes.items (get_or words.now 0 0)) }
     ensures records { IfOk result (λ nodes. All (λ node. node.rec < 256) nodes.items) }
     ensures named { IfErr result (Refuses (table_checks at words.now)) }
 {

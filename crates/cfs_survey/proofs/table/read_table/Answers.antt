@@ -1,7 +1,10 @@
 use Rattle.std.proofs.Common.{◌∙◌, ◌++◌, List, drop, get_or, sym, ap, ◌<◌}
 use Rattle.std.proofs.lemmas.List.Elements.{All-same}
 use Rattle.cfs_dir.specs.declared.node.Node.{Node}
+use Rattle.cfs_dir.specs.Tree.{IsTree}
 use Rattle.cfs_survey.proofs.TableLemmas.{nodes_in-records}
+use Rattle.cfs_survey.proofs.WholeLemmas.{table_is_tree}
+use Rattle.std.proofs.Common.{subst}
 use Rattle.std.proofs.lemmas.Result.{err_from_is_err_and}
 use Rattle.cfs_dir.specs.Words.{table_in}
 use Rattle.cfs_image.specs.Checks.{Check, damage_of}
@@ -59,3 +62,8 @@ pub returns-clause-records : goal.returns-clause-records
 returns-clause-records c =
     All-same (λ (node : Node). node.rec < 256) c.in_ok-nodes.nodes.items (table_in c.args.words.now).nodes c.in_ok-nodes.ensures.nodes
     (nodes_in-records 256 0 (drop 1 c.args.words.now))
+
+pub returns-clause-tree : goal.returns-clause-tree
+returns-clause-tree c =
+    subst (λ (nodes : List Node). IsTree nodes (get_or c.args.words.now 0 0)) (sym c.in_ok-nodes.ensures.nodes)
+    (table_is_tree c.args.at c.args.words.now c.requires.size (returns-clause-sound c))
