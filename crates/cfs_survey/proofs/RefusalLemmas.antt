@@ -1,0 +1,21 @@
+-- The refusals of checks that are put together.
+use Rattle.std.proofs.Common.{◌≡◌, List, ◌++◌, sym, ◌∙◌, subst}
+use Rattle.std.specs.Prelude.{None, Result, Err, IfErr}
+use Rattle.cfs_image.specs.Checks.{Check, damage_of}
+use Rattle.cfs_survey.specs.declared.refusal.SurveyRefusal.{SurveyRefusal}
+use Rattle.cfs_survey.specs.declared.refusal.SurveyRefusal.TheVariants.{Damaged, NoMemory}
+use Rattle.cfs_survey.specs.Faults.{damage_in}
+use Rattle.cfs_survey.specs.Refusals.{Refuses}
+use Rattle.cfs_survey.proofs.FirstFaults.{before_others, behind_sound}
+
+pub refused_behind : (xs ys : List Check) (refusal : SurveyRefusal) → damage_of xs ≡ None → Refuses ys refusal → Refuses (xs ++ ys) refusal
+refused_behind xs ys (Damaged fault) sound h = behind_sound xs ys sound ∙ h
+refused_behind xs ys NoMemory sound h = tt
+
+pub refused_before : (xs ys : List Check) (refusal : SurveyRefusal) → Refuses xs refusal → Refuses (xs ++ ys) refusal
+refused_before xs ys (Damaged fault) h = before_others xs ys (damage_in fault) h
+refused_before xs ys NoMemory h = tt
+
+pub refused_with : {T : Type 0} (r : Result T SurveyRefusal) (checks : List Check) (y refusal : SurveyRefusal) → r ≡ Err y → y ≡ refusal
+    → Refuses checks refusal → IfErr r (Refuses checks)
+refused_with r checks y refusal e same h = subst (λ x. IfErr x (Refuses checks)) (sym e) (subst (Refuses checks) (sym same) h)
