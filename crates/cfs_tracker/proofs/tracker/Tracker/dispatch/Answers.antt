@@ -1,0 +1,32 @@
+use Rattle.std.proofs.Common.{◌≡◌, ◌∙◌, ap, refl, sym, true, subst, List, Option}
+use Rattle.cfs_tracker.specs.declared.cell.Cell.{Cell}
+use Rattle.cfs_tracker.specs.Dispatch.{is_kept, tile_at}
+use Rattle.cfs_tracker.specs.View.{view_of}
+use Rattle.cfs_tracker.proofs.Dispatching.{first-kept, follows-dispatched, ready-blocks, second-kept, second-tile, taking}
+use Rattle.cfs_tracker.proofs.Putting.{same-view}
+use Rattle.cfs_tracker.proofs.tracker.Tracker.dispatch.Goals as goal
+
+pub lend-one-requires : goal.lend-one-requires
+lend-one-requires g c =
+    let view = view_of c.args.self.now in
+    first-kept view c.args.first c.args.second (ready-blocks view c.args.place c.args.first c.args.second c.requires.ready c.requires.still)
+
+pub lend-two-requires : goal.lend-two-requires
+lend-two-requires g c =
+    let view = view_of c.args.self.now in
+    rw c.lend-one.ensures.items
+    (second-kept view c.args.place c.args.first c.args.second (ready-blocks view c.args.place c.args.first c.args.second c.requires.ready c.requires.still))
+
+pub returns-clause-second : goal.returns-clause-second
+returns-clause-second g c =
+    let view = view_of c.args.self.now in
+    c.lend-two.ensures.tile
+    ∙ (rw c.lend-one.ensures.items
+    (second-tile view c.args.place c.args.first c.args.second (ready-blocks view c.args.place c.args.first c.args.second c.requires.ready c.requires.still)))
+
+pub returns-clause-follows : goal.returns-clause-follows
+returns-clause-follows g c = λ core follows.
+    let view = view_of c.args.self.now in
+    let takes = follows-dispatched view core c.args.place c.args.first c.args.second (taking view c.args.place c.args.first c.args.second c.requires.ready)
+    (ready-blocks view c.args.place c.args.first c.args.second c.requires.ready c.requires.still) follows in
+    (takes.0, same-view (rw (c.redo.ensures.items, c.lend-two.ensures.items, c.lend-one.ensures.items) refl) takes.1)

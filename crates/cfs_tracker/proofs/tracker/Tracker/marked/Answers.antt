@@ -1,0 +1,10 @@
+use Rattle.std.proofs.Common.{◌∙◌, ap, refl}
+use Rattle.cfs_tracker.specs.View.{doing, view_of, with_entry}
+use Rattle.cfs_tracker.proofs.Putting.{same-view}
+use Rattle.cfs_tracker.proofs.Marking.{follows-marked}
+use Rattle.cfs_tracker.proofs.tracker.Tracker.marked.Goals as goal
+
+pub returns-clause-follows : goal.returns-clause-follows
+returns-clause-follows g c = λ core follows.
+    let marks = follows-marked (view_of c.args.self.now) core c.args.place c.args.by c.args.slots c.args.kept c.requires follows in
+    (marks.0, same-view (rw (c.redo.ensures.items, c.marked_doing.ensures) refl) marks.1)

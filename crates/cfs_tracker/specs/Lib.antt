@@ -1,0 +1,14 @@
+pub mod View
+pub mod Cells
+pub mod Follows
+pub mod New
+pub mod Admit
+pub mod Reads
+pub mod Settle
+pub mod Skip
+pub mod Dispatch
+pub mod Mark
+pub mod Finish
+pub mod Trim
+pub mod Work
+pub mod Least

@@ -1,0 +1,128 @@
+//! A job takes a change and its next blocks.
+
+ghost use Rattle.std.specs.Prelude.{◌≡◌, ◌<◌, Some, find, length, option_copied, true};
+ghost use Rattle.std.specs.List.{list_all, range_with_len};
+ghost use Rattle.cfs_file.specs.declared.sizes.TheConstants.{FILE_BLOCKS};
+ghost use Rattle.cfs_core.specs.declared.event.Event.TheVariants as events;
+ghost use Rattle.cfs_core.specs.declared.inode_core.Core.{Core};
+ghost use Rattle.cfs_core.specs.May.{may};
+ghost use Rattle.cfs_core.specs.After.{after};
+ghost use Rattle.cfs_tracker.specs.declared.step.Step.TheVariants.{Takes as takes};
+ghost use Rattle.cfs_tracker.specs.Dispatch.{ahead, dispatched, first_cell, holder, is_still, lesser, second_cell, step_at, step_behind, step_of, step_of_blocks, tile_at, waiting_slots};
+ghost use Rattle.cfs_tracker.specs.Follows.{Follows};
+ghost use Rattle.cfs_tracker.specs.View.{KeepsRoom, entry_at, view_of};
+
+use crate::ahead::{first_ahead, first_read_ahead, lesser};
+use crate::blockers::place_of;
+use crate::find::{entry_of, redo};
+use crate::lending::{holder, is_still, lend, next_cell};
+use crate::{Doing, Pending, Step, Taken, Tracker};
+
+impl<S: Drop, D: Drop, B: Drop> Tracker<S, D, B> {
+    /// What becomes of the change at a place: a job may take it; or it waits, for the first earlier
+    /// live entry or read that overlaps it, else for the first entry whose job has a block that it
+    /// needs; or no change waits there.
+    pub fn step(&self, place: u64) -> Step
+        ensures { result ≡ step_at (view_of self.now) place }
+    {
+        match entry_of(self.entries.as_slice(), place) {
+            Some(entry) => self.step_of(entry),
+            None => Step::NotWaiting,
+        }
+    }
+
+    pub(crate) fn step_of(&self, entry: &Pending<S>) -> Step
+        ensures { result ≡ step_of (view_of self.now) (Some entry.now) }
+    {
+        if entry.doing.is_waiting() {
+            self.step_behind(entry, self.ahead(entry))
+        } else {
+            Step::NotWaiting
+        }
+    }
+
+    fn ahead(&self, entry: &Pending<S>) -> Option<u64>
+        ensures { result ≡ ahead (view_of self.now) entry.now }
+    {
+        lesser(
+            place_of(first_ahead(self.entries.as_slice(), entry.place, &entry.span)),
+            first_read_ahead(self.reads.as_slice(), entry.place, &entry.span),
+        )
+    }
+
+    fn step_behind(&self, entry: &Pending<S>, ahead: Option<u64>) -> Step
+        ensures { result ≡ step_behind (view_of self.now) entry.now ahead }
+    {
+        match ahead {
+            Some(place) => Step::NotYet(place),
+            None => {
+                let first = self.first_cell(entry);
+                self.step_of_blocks(first, self.second_cell(entry, first))
+            }
+        }
+    }
+
+    fn first_cell(&self, entry: &Pending<S>) -> Option<u64>
+        ensures { result ≡ first_cell (view_of self.now).cells entry.now }
+    {
+        if entry.applied {
+            None
+        } else {
+            next_cell(self.cells.as_slice(), &entry.span, entry.done)
+        }
+    }
+
+    fn second_cell(&self, entry: &Pending<S>, first: Option<u64>) -> Option<u64>
+        ensures { result ≡ second_cell (view_of self.now).cells entry.now.span first }
+    {
+        match first {
+            Some(block) => next_cell(self.cells.as_slice(), &entry.span, Some(block)),
+            None => None,
+        }
+    }
+
+    fn step_of_blocks(&self, first: Option<u64>, second: Option<u64>) -> Step
+        ensures { result ≡ step_of_blocks (view_of self.now).cells first second }
+    {
+        let cells = self.cells.as_slice();
+        match lesser(holder(cells, first), holder(cells, second)) {
+            Some(place) => Step::NotYet(place),
+            None => Step::Takes { first, second },
+        }
+    }
+
+    /// Whether no block whose tag is set is in the caller's hands.
+    pub fn is_still(&self) -> bool
+        ensures { result ≡ list_all (λ cell. is_still cell) (view_of self.now).cells }
+    {
+        self.cells.iter().all(|cell| is_still(cell))
+    }
+
+    /// A job takes the change at a place, as `step` says, with these blocks.
+    pub fn dispatch(&mut self, place: u64, first: Option<u64>, second: Option<u64>) -> Taken<S, B>
+        requires ready { step_at (view_of self.old) place ≡ takes first second }
+        requires still { list_all (λ cell. is_still cell) (view_of self.old).cells ≡ true }
+        ensures slots { waiting_slots (entry_at (view_of self.old).entries place) ≡
+            Some result.slots }
+        ensures first { result.first ≡ tile_at (view_of self.old).cells first }
+        ensures second { result.second ≡ tile_at (view_of self.old).cells second }
+        ensures view { view_of self.new ≡ dispatched place first second (view_of self.old) }
+        ensures room { KeepsRoom self.old self.new }
+        ensures follows { (core : Core) → Follows (view_of self.old) core →
+            (may core (events.Dispatch place) ≡ true)
+            × Follows (view_of self.new) (after core (events.Dispatch place)) }
+    {
+        let slots = match redo(&mut self.entries, place, Doing::Out { first, second }) {
+            Some(Doing::Waiting(slots)) => slots,
+            Some(Doing::Marking | Doing::Out { .. } | Doing::Covered(_) | Doing::Closing) | None =>
+                { unreachable!() }
+        };
+        let one = lend(&mut self.cells, first, place);
+        let two = lend(&mut self.cells, second, place);
+        Taken {
+            slots,
+            first: one,
+            second: two,
+        }
+    }
+}

@@ -1,0 +1,78 @@
+//! Blocks are lent to jobs.
+
+ghost use Rattle.std.specs.Prelude.{◌≡◌, Some, find, is_some, length, true, vec_len};
+ghost use Rattle.std.specs.List.{range_with_len};
+ghost use Rattle.cfs_core.specs.Jobs.{is_above};
+ghost use Rattle.cfs_tracker.specs.Dispatch.{holder, is_kept, is_still, is_wanted_cell, lend, next_cell, tile_at};
+
+use crate::cells::is_mapped;
+use crate::{Cell, Tile};
+use cfs_file::{BLOCK_LEN, FILE_BLOCKS, Span, overlaps};
+use std::mem;
+
+/// The next block of the file that an entry of the span wants, behind those that are done.
+pub(crate) fn next_cell<B>(cells: &[Cell<B>], span: &Span, done: Option<u64>) -> Option<u64>
+    ensures { result ≡ next_cell cells.now span.now done }
+{
+    (0..cells.len() as u64).find(|block| is_wanted(cells, span, done, *block))
+}
+
+fn is_wanted<B>(cells: &[Cell<B>], span: &Span, done: Option<u64>, block: u64) -> bool
+    ensures { result ≡ is_wanted_cell cells.now span.now done block }
+{
+    block < FILE_BLOCKS
+        && is_above(done, block)
+        && is_mapped(cells, block)
+        && overlaps(
+            span,
+            &Span::Range {
+                from: BLOCK_LEN * block,
+                to: BLOCK_LEN * block + BLOCK_LEN,
+            },
+        )
+}
+
+fn is_above(done: Option<u64>, block: u64) -> bool
+    ensures { result ≡ is_above done block }
+{
+    match done {
+        Some(last) => last < block,
+        None => true,
+    }
+}
+
+/// The place whose job has the block.
+pub(crate) fn holder<B>(cells: &[Cell<B>], block: Option<u64>) -> Option<u64>
+    ensures { result ≡ holder cells.now block }
+{
+    let block = block?;
+    match cells.get(block as usize) {
+        Some(Cell::Lent(place)) => Some(*place),
+        Some(Cell::Hole | Cell::Home(_) | Cell::Unsure(_) | Cell::Moving(_)) | None => None,
+    }
+}
+
+/// Lends the block that is kept for a block of the file to the job of a place.
+pub(crate) fn lend<B: Drop>(
+    cells: &mut Vec<Cell<B>>,
+    block: Option<u64>,
+    place: u64,
+) -> Option<Tile<B>>
+    requires { is_kept cells.old.items block ≡ true }
+    ensures tile { result ≡ tile_at cells.old.items block }
+    ensures items { cells.new.items ≡ lend place block cells.old.items }
+    ensures long { vec_len cells.new ≡ vec_len cells.old }
+{
+    let block = block?;
+    match mem::replace(&mut cells[block as usize], Cell::Lent(place)) {
+        Cell::Home(home) => Some(Tile { block, home }),
+        Cell::Hole | Cell::Unsure(_) | Cell::Lent(_) | Cell::Moving(_) => unreachable!(),
+    }
+}
+
+/// The block is not in the caller's hands with its tag set.
+pub(crate) fn is_still<B>(cell: &Cell<B>) -> bool
+    ensures { result ≡ is_still cell.now }
+{
+    !matches!(cell, Cell::Moving(true))
+}

@@ -1,0 +1,91 @@
+//! What there is to do.
+
+ghost use Rattle.std.specs.Prelude.{◌≡◌, ◌&&◌, Some, find, nat_lt, option_copied, option_map};
+ghost use Rattle.std.specs.List.{list_any};
+ghost use Rattle.cfs_tracker.specs.Dispatch.{step_of};
+ghost use Rattle.cfs_tracker.specs.View.{entry_at, view_of};
+ghost use Rattle.cfs_tracker.specs.Work.{is_noop_doing, is_to_do, is_waiting_read, next_work, read_waits, takes_now, work_of};
+
+use crate::find::entry_of;
+use crate::{Doing, Pending, Reading, Step, Tracker, Work};
+use cfs_file::overlaps;
+
+fn takes_now(step: Step) -> bool
+    ensures { result ≡ takes_now step }
+{
+    matches!(step, Step::Takes { .. })
+}
+
+fn is_noop<S>(doing: &Doing<S>) -> bool
+    ensures { result ≡ is_noop_doing doing.now }
+{
+    matches!(doing, Doing::Covered(_))
+}
+
+fn read_waits<S>(reads: &[Reading], entry: &Pending<S>) -> bool
+    ensures { result ≡ read_waits reads.now entry.now }
+{
+    entry.doing.is_live() && has_waiting_read(reads, entry)
+}
+
+fn has_waiting_read<S>(reads: &[Reading], entry: &Pending<S>) -> bool
+    ensures { result ≡ list_any (is_waiting_read entry.now) reads.now }
+{
+    reads.iter().any(|read| {
+        entry.place < read.place && (read.is_sync || overlaps(&read.span, &entry.span))
+    })
+}
+
+impl<S: Drop, D: Drop, B: Drop> Tracker<S, D, B> {
+    /// The first place behind `after` that is a no-op with its slots, or a change that a job may
+    /// take.
+    pub fn next_work(&self, after: u64) -> Option<Work>
+        ensures { result ≡ next_work (view_of self.now) after }
+    {
+        match self.first_to_do(after) {
+            Some(entry) => Some(self.work_of(entry)),
+            None => None,
+        }
+    }
+
+    fn first_to_do(&self, after: u64) -> Option<&Pending<S>>
+        ensures { option_copied result ≡
+            find (λ e. nat_lt after e.place && is_to_do (view_of self.now) e)
+            (view_of self.now).entries }
+    {
+        self.entries
+            .iter()
+            .find(|entry| after < entry.place && self.is_to_do(entry))
+    }
+
+    fn is_to_do(&self, entry: &Pending<S>) -> bool
+        ensures { result ≡ is_to_do (view_of self.now) entry.now }
+    {
+        is_noop(&entry.doing) || takes_now(self.step_of(entry))
+    }
+
+    fn work_of(&self, entry: &Pending<S>) -> Work
+        ensures { result ≡ work_of (view_of self.now) entry.now }
+    {
+        Work {
+            place: entry.place,
+            is_noop: is_noop(&entry.doing),
+            read_waits: read_waits(self.reads.as_slice(), entry),
+        }
+    }
+
+    /// The entry of a place.
+    pub fn entry(&self, place: u64) -> Option<&Pending<S>>
+        ensures { option_copied result ≡ entry_at (view_of self.now).entries place }
+    {
+        entry_of(self.entries.as_slice(), place)
+    }
+
+    /// The first entry behind a place.
+    pub fn next_entry(&self, after: u64) -> Option<&Pending<S>>
+        ensures { option_copied result ≡
+            find (λ e. nat_lt after e.place) (view_of self.now).entries }
+    {
+        self.entries.iter().find(|entry| after < entry.place)
+    }
+}
