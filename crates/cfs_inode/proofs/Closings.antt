@@ -1,0 +1,44 @@
+-- A gate is closed.
+use Rattle.std.proofs.Common.{◌≡◌, ◌≤◌, ◌+◌, arith, inl, List, [], ◌∷◌, length, refl, ℕ, Bool, Ok, Err, Result}
+use Rattle.cfs_core.specs.declared.inode_core.Core.{Core}
+use Rattle.cfs_pmem.specs.declared.trace.Asked.{Asked}
+use Rattle.cfs_pmem.specs.Images.{Seen, WordStep}
+use Rattle.cfs_pmem.specs.Operations.{Does}
+use Rattle.cfs_pmem.specs.WordOps.{SetsWord}
+use Rattle.cfs_medium.specs.SlotEvents.{Answer}
+use Rattle.cfs_inode.specs.View.{Seens}
+use Rattle.cfs_inode.specs.Ends.{Closes}
+
+abbrev plain-ok : Answer
+plain-ok = Ok tt
+
+abbrev plain-err : Answer
+plain-err = Err tt
+
+-- what a call answers is no matter to what it did, but for whether it went well
+
+pub sets-ok : {T E : Type 0} {obeys : Bool} {at word : ℕ} (t : T)
+    {asked_old asked_new : List Asked} {old new : Seen WordStep} →
+    SetsWord {T = T} {E = E} obeys at word (Ok t) asked_old old asked_new new →
+    SetsWord obeys at word plain-ok asked_old old asked_new new
+sets-ok t sets = record {
+  ok = sets.ok;
+  sure = sets.sure;
+  err = tt;
+  size = sets.size;
+  does = λ obeys. record { all = (sets.does obeys).all; front = tt };
+  moments = sets.moments;
+}
+
+pub sets-err : {T E : Type 0} {obeys : Bool} {at word : ℕ} (e : E)
+    {asked_old asked_new : List Asked} {old new : Seen WordStep} →
+    SetsWord {T = T} {E = E} obeys at word (Err e) asked_old old asked_new new →
+    SetsWord obeys at word plain-err asked_old old asked_new new
+sets-err e sets = record {
+  ok = tt;
+  sure = tt;
+  err = sets.err;
+  size = sets.size;
+  does = λ obeys. record { all = tt; front = (sets.does obeys).front };
+  moments = sets.moments;
+}

@@ -1,0 +1,6 @@
+pub mod Tells
+pub mod Goods
+pub mod Resting
+pub mod Replacing
+pub mod Closings
+pub mod Skips

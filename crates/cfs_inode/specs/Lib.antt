@@ -1,0 +1,4 @@
+pub mod View
+pub mod Stands
+pub mod Makes
+pub mod Ends

@@ -1,0 +1,9 @@
+//! The state of one inode with its devices.
+#![tactic(auto)]
+
+mod answers;
+mod skip;
+mod state;
+
+pub use answers::CloseAnswer;
+pub use state::InodeState;
