@@ -5,7 +5,9 @@ use Rattle.cfs_core.specs.declared.event.Event.TheVariants as events
 use Rattle.cfs_pmem.specs.declared.trace.Asked.{Asked}
 use Rattle.cfs_pmem.specs.Images.{Seen, WordStep}
 use Rattle.cfs_pmem.specs.WordOps.{SetsWord}
+use Rattle.cfs_slot.specs.declared.slot.Slot.{Slot}
 use Rattle.cfs_slot.specs.Regions.{of_slots}
+use Rattle.cfs_vec.specs.declared.fixed_vec.FixedVec.{FixedVec}
 use Rattle.cfs_medium.specs.SlotEvents.{Answer}
 use Rattle.cfs_tracker.specs.Skip.{covered_slots, skipped, unclosed}
 use Rattle.cfs_tracker.specs.Settle.{doubt_slots, settled, unsettled}
@@ -20,7 +22,8 @@ pub data CloseEnd : Type 0 where
   nothing : CloseEnd
   failed : CloseEnd
 
-abbrev pub end_of : {R : Type 0} {g : _} → (R → Seen WordStep) → CloseAnswer R g → CloseEnd
+abbrev pub end_of : {R : Type 0} {g : _} {N : ℕ} → (R → Seen WordStep) →
+    CloseAnswer (FixedVec (Slot R g) N) → CloseEnd
 end_of seen (answers.Closed slots) = closed (map seen (of_slots slots))
 end_of seen answers.Nothing = nothing
 end_of seen answers.Failed = failed

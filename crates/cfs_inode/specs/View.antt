@@ -13,7 +13,7 @@ use Rattle.cfs_tracker.specs.declared.doing.Doing.TheVariants as doings
 use Rattle.cfs_tracker.specs.declared.in_doubt.InDoubt.{InDoubt}
 use Rattle.cfs_tracker.specs.declared.pending.Pending.{Pending}
 use Rattle.cfs_tracker.specs.View.{TrackerView, view_of}
-use Rattle.cfs_inode.specs.declared.state.InodeState.{InodeState}
+use Rattle.cfs_inode.specs.declared.state.State.{State}
 
 -- the slots of a request, the head first
 abbrev pub Seens : Type 0
@@ -91,7 +91,7 @@ abbrev pub seens_of : {R : Type 0} {g : _} → (R → Seen WordStep) → Doubt R
 seens_of seen doubt = map seen (of_doubt doubt ∷ tails_of_doubt doubt)
 
 abbrev pub state_view : {R B : Type 0} {g : _} → (R → Seen WordStep) → (B → Seen BlockStep) →
-    InodeState R B g → StateView
+    State R B (Live R g) (Doubt R g) → StateView
 state_view words bytes state = record {
   ino = state.ino;
   size = words state.size;

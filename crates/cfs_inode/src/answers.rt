@@ -1,14 +1,10 @@
-//! Answers of calls that close a gate.
+//! What calls that close a gate answer.
 
-use cfs_pmem::Region;
-use cfs_slot::{QUEUE_SLOTS, Slot};
-use cfs_vec::FixedVec;
-
-/// What a call that is to close a gate answers.
+/// What a call that is to close a gate answers. `S` is the slots of the request.
 #[derive(Drop)]
-pub enum CloseAnswer<R: Region> {
+pub enum CloseAnswer<S> {
     /// The gate is closed: these are the slots of the request, the head first.
-    Closed(FixedVec<Slot<R>, QUEUE_SLOTS>),
+    Closed(S),
     /// There is none to be closed.
     Nothing,
     /// A device fault: the gate may be open or closed.

@@ -2,8 +2,9 @@
 #![tactic(auto)]
 
 mod answers;
+mod reading;
 mod skip;
 mod state;
 
 pub use answers::CloseAnswer;
-pub use state::InodeState;
+pub use state::{InodeState, State};
