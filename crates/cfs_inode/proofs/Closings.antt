@@ -1,5 +1,5 @@
 -- A gate is closed.
-use Rattle.std.proofs.Common.{◌≡◌, ◌≤◌, ◌+◌, arith, inl, List, [], ◌∷◌, length, refl, ℕ, Bool, Ok, Err, Result}
+use Rattle.std.proofs.Common.{◌≡◌, ◌≤◌, ◌+◌, arith, inl, List, [], ◌∷◌, ap, length, map, refl, ℕ, Bool, Ok, Err, Result}
 use Rattle.cfs_core.specs.declared.inode_core.Core.{Core}
 use Rattle.cfs_pmem.specs.declared.trace.Asked.{Asked}
 use Rattle.cfs_pmem.specs.Images.{Seen, WordStep}
@@ -41,4 +41,34 @@ sets-err e sets = record {
   size = sets.size;
   does = λ obeys. record { all = tt; front = (sets.does obeys).front };
   moments = sets.moments;
+}
+
+-- the slots of a request behind a call that closed their gate, or failed to
+
+pub closes-ok : {R T E : Type 0} {obeys : Bool} (seen : R → Seen WordStep) (head now : R)
+    (tails news : List R) (t : T) {asked_old asked_new : List Asked} →
+    SetsWord {T = T} {E = E} obeys 0 0 (Ok t) asked_old (seen head) asked_new (seen now) →
+    news ≡ now ∷ tails →
+    Closes obeys plain-ok asked_old (map seen (head ∷ tails)) asked_new (map seen news)
+closes-ok seen head now tails news t sets is = record {
+  head = seen head;
+  now = seen now;
+  tails = map seen tails;
+  old_is = refl;
+  new_is = ap (λ xs. map seen xs) is;
+  sets = sets-ok t sets;
+}
+
+pub closes-err : {R T E : Type 0} {obeys : Bool} (seen : R → Seen WordStep) (head now : R)
+    (tails news : List R) (e : E) {asked_old asked_new : List Asked} →
+    SetsWord {T = T} {E = E} obeys 0 0 (Err e) asked_old (seen head) asked_new (seen now) →
+    news ≡ now ∷ tails →
+    Closes obeys plain-err asked_old (map seen (head ∷ tails)) asked_new (map seen news)
+closes-err seen head now tails news e sets is = record {
+  head = seen head;
+  now = seen now;
+  tails = map seen tails;
+  old_is = refl;
+  new_is = ap (λ xs. map seen xs) is;
+  sets = sets-err e sets;
 }

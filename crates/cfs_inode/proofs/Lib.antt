@@ -4,3 +4,4 @@ pub mod Resting
 pub mod Replacing
 pub mod Closings
 pub mod Skips
+pub mod States

@@ -91,15 +91,20 @@ beside-doubt ino place core world shows gate = λ d is same.
 
 -- ---- what the tracker follows
 
+pub taken-closing : {S : Type 0} (es : List (Pending S)) (place : ℕ) (slots : S) →
+    covered_slots (entry_at es place) ≡ Some slots →
+    is_closing (entry_at (with_entry place (doing doings.Closing) es) place) ≡ true
+taken-closing es place slots h =
+    let there = covered-there (entry_at es place) slots h in
+    rw (here-with es place (doing doings.Closing) (λ e. refl), there.1) refl
+
 pub follows-gone : {S D B : Type 0} (view : TrackerView S D B) (core : Core) (place : ℕ)
     (slots : S) → covered_slots (entry_at view.entries place) ≡ Some slots → Follows view core →
     (may core (events.Skip place) ≡ true)
     × Follows (skipped place view) (after core (events.Skip place))
 follows-gone view core place slots h follows =
-    let there = covered-there (entry_at view.entries place) slots h in
     let under = follows-closing view core place slots h follows in
-    let taken : is_closing (entry_at (closing place view).entries place) ≡ true =
-    rw (here-with view.entries place (doing doings.Closing) (λ e. refl), there.1) refl in
+    let taken = taken-closing view.entries place slots h in
     let skips = follows-skipped (closing place view) core place taken under in (
       skips.0,
       subst (λ es. Follows (record view { entries = es }) (after core (events.Skip place)))

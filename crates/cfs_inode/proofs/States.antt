@@ -1,0 +1,69 @@
+-- What a state is seen as when its tracker has changed.
+use Rattle.std.proofs.Common.{◌≡◌, ◌∙◌, ap, List, Option, None, Some, map, sym, ℕ}
+use Rattle.cfs_pmem.specs.Images.{Seen, WordStep}
+use Rattle.cfs_block.specs.BlockImages.{BlockStep}
+use Rattle.cfs_slot.specs.declared.doubt.Doubt.{Doubt}
+use Rattle.cfs_slot.specs.declared.live.Live.{Live}
+use Rattle.cfs_tracker.specs.declared.tracker.Tracker.{Tracker}
+use Rattle.cfs_tracker.specs.Skip.{closing, covered_slots, skipped, unclosed}
+use Rattle.cfs_tracker.specs.View.{TrackerView, entry_at, view_of}
+use Rattle.cfs_inode.specs.declared.state.State.{State}
+use Rattle.cfs_inode.specs.Ends.{noop_at, with_noop, without_noop}
+use Rattle.cfs_inode.specs.View.{Held, StateView, held_of, seens_of, state_view, told, told_option}
+use Rattle.cfs_inode.proofs.Tells.{covered-told, told-skipped, told-unclosed}
+
+-- the state with another tracker, seen by what that tracker is seen as
+pub state-told : {R B : Type 0} {g : _} (words : R → Seen WordStep) (bytes : B → Seen BlockStep)
+    (state : State R B (Live R g) (Doubt R g)) (now : Tracker (Live R g) (Doubt R g) B)
+    (view : TrackerView (Live R g) (Doubt R g) B) → view_of now ≡ view →
+    state_view words bytes (record state { tracker = now })
+    ≡ record (state_view words bytes state) {
+      tracker = told (held_of words) (seens_of words) bytes view;
+    }
+state-told words bytes state now view is =
+    ap (λ v. record (state_view words bytes state) {
+      tracker = told (held_of words) (seens_of words) bytes v;
+    }) is
+
+pub state-same : {R B : Type 0} {g : _} (words : R → Seen WordStep) (bytes : B → Seen BlockStep)
+    (state : State R B (Live R g) (Doubt R g)) (now : Tracker (Live R g) (Doubt R g) B) →
+    view_of now ≡ view_of state.tracker →
+    state_view words bytes (record state { tracker = now }) ≡ state_view words bytes state
+state-same words bytes state now is =
+    state-told words bytes state now (view_of state.tracker) is
+
+-- ---- no-ops
+
+pub state-noop : {R B : Type 0} {g : _} (words : R → Seen WordStep) (bytes : B → Seen BlockStep)
+    (state : State R B (Live R g) (Doubt R g)) (place : ℕ) (slots : Option (Live R g)) →
+    slots ≡ covered_slots (entry_at (view_of state.tracker).entries place) →
+    noop_at (state_view words bytes state) place ≡ told_option (held_of words) slots
+state-noop words bytes state place slots is =
+    covered-told (held_of words) (view_of state.tracker).entries place
+    ∙ ap (λ o. told_option (held_of words) o) (sym is)
+
+pub state-skipped : {R B : Type 0} {g : _} (words : R → Seen WordStep) (bytes : B → Seen BlockStep)
+    (state : State R B (Live R g) (Doubt R g)) (now : Tracker (Live R g) (Doubt R g) B)
+    (mid : TrackerView (Live R g) (Doubt R g) B) (place : ℕ) → view_of now ≡ skipped place mid →
+    mid ≡ closing place (view_of state.tracker) →
+    state_view words bytes (record state { tracker = now })
+    ≡ without_noop place (state_view words bytes state)
+state-skipped words bytes state now mid place is was =
+    state-told words bytes state now (skipped place (closing place (view_of state.tracker)))
+    (is ∙ ap (λ v. skipped place v) was)
+    ∙ ap (λ t. record (state_view words bytes state) { tracker = t })
+    (told-skipped (held_of words) (seens_of words) bytes place (view_of state.tracker))
+
+pub state-unclosed : {R B : Type 0} {g : _} (words : R → Seen WordStep)
+    (bytes : B → Seen BlockStep) (state : State R B (Live R g) (Doubt R g))
+    (now : Tracker (Live R g) (Doubt R g) B) (mid : TrackerView (Live R g) (Doubt R g) B)
+    (place : ℕ) (live : Live R g) → view_of now ≡ unclosed place live mid →
+    mid ≡ closing place (view_of state.tracker) →
+    state_view words bytes (record state { tracker = now })
+    ≡ with_noop place (held_of words live) (state_view words bytes state)
+state-unclosed words bytes state now mid place live is was =
+    state-told words bytes state now
+    (unclosed place live (closing place (view_of state.tracker)))
+    (is ∙ ap (λ v. unclosed place live v) was)
+    ∙ ap (λ t. record (state_view words bytes state) { tracker = t })
+    (told-unclosed (held_of words) (seens_of words) bytes place live (view_of state.tracker))
