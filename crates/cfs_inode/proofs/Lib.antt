@@ -4,4 +4,5 @@ pub mod Resting
 pub mod Replacing
 pub mod Closings
 pub mod Skips
+pub mod Settlings
 pub mod States

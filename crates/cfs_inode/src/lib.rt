@@ -3,6 +3,7 @@
 
 mod answers;
 mod reading;
+mod settle;
 mod skip;
 mod state;
 
