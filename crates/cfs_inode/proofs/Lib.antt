@@ -5,4 +5,5 @@ pub mod Replacing
 pub mod Closings
 pub mod Skips
 pub mod Settlings
+pub mod Openings
 pub mod States

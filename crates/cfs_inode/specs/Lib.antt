@@ -2,3 +2,4 @@ pub mod View
 pub mod Stands
 pub mod Makes
 pub mod Ends
+pub mod Opening

@@ -1,0 +1,195 @@
+-- The gate of an admission.
+use Rattle.std.proofs.Common.{◌≡◌, ◌∙◌, ◌≤◌, ◌<◌, ◌+◌, ◌-◌, ◌++◌, ap, arith, get_or, inl, inr, List, [], ◌∷◌, length, length-append, Option, None, Some, Ok, Err, refl, subst, sym, true, false, not, ℕ, Bool}
+use Rattle.std.specs.Option.{option_or}
+use Rattle.std.proofs.lemmas.Bool.Decides.{nat_tests}
+use Rattle.std.proofs.lemmas.List.{get_or_past}
+use Rattle.std.proofs.lemmas.List.Folds.{find-append}
+use Rattle.cfs_file.specs.declared.entry.Entry.{Entry}
+use Rattle.cfs_file.specs.declared.request.Request.{Request}
+use Rattle.cfs_file.specs.Span.{span}
+use Rattle.cfs_core.specs.declared.doubt.Doubt.{Doubt as CoreDoubt}
+use Rattle.cfs_core.specs.declared.event.Event.TheVariants as events
+use Rattle.cfs_core.specs.declared.flag.Flag.{Flag}
+use Rattle.cfs_core.specs.declared.flag.Flag.TheVariants.{Off, Unsure}
+use Rattle.cfs_core.specs.declared.inode_core.Core.{Core}
+use Rattle.cfs_core.specs.declared.track.Track.{Track}
+use Rattle.cfs_core.specs.Words.{blank, can_be, is_out, track}
+use Rattle.cfs_core.specs.May.{may, span_now}
+use Rattle.cfs_core.specs.After.{after, change_track}
+use Rattle.cfs_core.specs.Medium.{file, placed}
+use Rattle.cfs_core.proofs.Order.{track_is}
+use Rattle.cfs_job.specs.Views.{JobView}
+use Rattle.cfs_pmem.specs.declared.trace.Asked.{Asked}
+use Rattle.cfs_pmem.specs.Images.{Seen, WordStep, IsImage, words_of}
+use Rattle.cfs_pmem.specs.Objects.{IsEachImage}
+use Rattle.cfs_pmem.specs.WordOps.{SetsWord}
+use Rattle.cfs_pmem.proofs.AllMomentLemmas.{all_after, all_weaker}
+use Rattle.cfs_medium.specs.Shows.{Recovers, Shows, holding, is_gated}
+use Rattle.cfs_medium.specs.SlotEvents.{Answer, AreStagedAs, Leads}
+use Rattle.cfs_medium.specs.World.{Remains, World, head_words}
+use Rattle.cfs_medium.specs.WorldCalls.{AreShut, WorldMoments, with_slots}
+use Rattle.cfs_medium.proofs.SizeSteps.{slots-come}
+use Rattle.cfs_medium.proofs.SlotEvents.{admissions-show}
+use Rattle.cfs_medium.proofs.Worlds.{at_place}
+use Rattle.cfs_tracker.specs.declared.in_doubt.InDoubt.{InDoubt}
+use Rattle.cfs_tracker.specs.declared.pending.Pending.{Pending}
+use Rattle.cfs_tracker.specs.Admit.{MayAdmit, admitted, doubted, pending}
+use Rattle.cfs_tracker.specs.Follows.{DoubtStands, Follows}
+use Rattle.cfs_tracker.specs.View.{TrackerView, entry_at, is_at}
+use Rattle.cfs_tracker.proofs.Admissions.{follows-admitted, follows-doubted}
+use Rattle.cfs_tracker.proofs.Pushing.{none-past, track-beside, tracks-count}
+use Rattle.cfs_inode.specs.Makes.{AnyBetween, CallMakes}
+use Rattle.cfs_inode.specs.Opening.{AdmitMakes, IsNext, OpensGate, next_place, with_admitted, with_doubted}
+use Rattle.cfs_inode.specs.Stands.{Stands, Together, slots_in}
+use Rattle.cfs_inode.specs.View.{Held, Seens, StateView}
+use Rattle.cfs_inode.proofs.Goods.{good}
+use Rattle.cfs_inode.proofs.Replacing.{DoubtGoes, Replaces, replaced}
+use Rattle.cfs_inode.proofs.Replacing.DoubtGoes.{comes}
+
+-- ---- the next place
+
+past-blank : (tracks : List Track) (q : ℕ) → length tracks < q → track tracks q ≡ blank
+past-blank tracks q less =
+    let some : q ≡ 0 → ⊥ = (λ zero_is. omega arith) in
+    track_is tracks q (q - 1) some refl ∙ get_or_past tracks (q - 1) blank (omega arith)
+
+no-doubt : (mine : Option (InDoubt Seens)) (theirs : Option CoreDoubt) →
+    DoubtStands mine theirs → mine ≡ None → theirs ≡ None
+no-doubt None None stands h = refl
+no-doubt None (Some theirs) stands h = absurd stands
+no-doubt (Some mine) theirs stands h = cc
+
+-- where nothing is in doubt, the core has nothing at the next place
+pub record IsFree (core : Core) (place : ℕ) : Type 0 where
+  pub is_blank : track core.tracks place ≡ blank
+  pub gate : (holding core core.doubt place).gate ≡ Off
+
+pub next-free : (old : StateView) (core : Core) (world : World) → Stands old core world →
+    old.tracker.doubt ≡ None → IsFree core (next_place old)
+next-free old core world stands settled =
+    let past = past-blank core.tracks (next_place old)
+        (omega (arith, tracks-count old.tracker core stands.follows)) in
+    let none = no-doubt old.tracker.doubt core.doubt stands.follows.doubt settled in
+    record {
+      is_blank = past;
+      gate =
+          ap (λ (d : Option CoreDoubt). (holding core d (next_place old)).gate) none
+          ∙ ap (λ (t : Track). t.gate) past;
+    }
+
+off-shut : (flag : Flag) (open_now : Bool) → flag ≡ Off → can_be flag open_now ≡ true →
+    open_now ≡ false
+off-shut flag true off h = (let none : can_be flag true ≡ false = rw off refl in cc)
+off-shut flag false off h = refl
+
+pub shut-here : (ino place : ℕ) (core : Core) (world : World) → Shows ino core world →
+    IsFree core place → AreShut (world.slots place)
+shut-here ino place core world shows free = λ slots images.
+    off-shut (holding core core.doubt place).gate (is_gated (head_words slots)) free.gate
+    (shows.slots place slots images).gate
+
+-- ---- the staged slots come, without a step
+
+pub record Comes (old : StateView) (staged : Seens) (jobs : List JobView) (core : Core)
+    (world : World) (asked : List Asked) : Type 0 where
+  pub moments : (n : ℕ) → length core.log + 2 ≤ n →
+      WorldMoments (Recovers old.ino n core) asked world asked
+      (with_slots (next_place old) staged world)
+  pub together : Together old jobs core (with_slots (next_place old) staged world)
+
+off-may : (flag : Flag) → flag ≡ Off → can_be flag false ≡ true
+off-may flag off = rw off refl
+
+pub staged-come : (old : StateView) (staged : Seens) (jobs : List JobView) (core : Core)
+    (world : World) (asked : List Asked) → old.tracker.doubt ≡ None → AreShut staged →
+    Together old jobs core world → Comes old staged jobs core world asked
+staged-come old staged jobs core world asked settled shut together =
+    let stands = together.stands in
+    let place : ℕ = next_place old in
+    let free = next-free old core world stands settled in
+    let come : (n : ℕ) → length core.log + 2 ≤ n →
+        WorldMoments (Recovers old.ino n core) asked world asked (with_slots place staged world)
+        × Shows old.ino core (with_slots place staged world) =
+    λ n bound. slots-come old.ino n place core world staged asked stands.shows
+    (shut-here old.ino place core world stands.shows free) shut
+    (good core stands.follows.reached) bound
+    (off-may (holding core core.doubt place).gate free.gate) in
+    let none = none-past old.tracker core place stands.follows (omega arith) in
+    record {
+      moments = λ n bound. (come n bound).0;
+      together = replaced old old.tracker place staged jobs core core world
+          (record {
+            follows = stands.follows;
+            shows = (come (length core.log + 2) (omega arith)).1;
+            cells = refl;
+            free = ap (λ (t : Track). is_out t.state) free.is_blank;
+            tracks = λ q apart. refl;
+            entries = λ q apart. refl;
+            here = λ entry held there has. (let clash : None ≡ Some entry = sym none.0 ∙ there in cc);
+            doubt = λ doubt slots is has.
+                (let clash : None ≡ Some doubt = sym settled ∙ is in cc);
+          }) together;
+    }
+
+-- ---- what is admitted
+
+-- what is staged for a request: its slots hold it as it is placed, shut and not marked
+pub record IsReady (old : StateView) (request : Request) (staged : Seens) : Type 0 where
+  pub head : Seen WordStep
+  pub tails : Seens
+  pub is : staged ≡ head ∷ tails
+  pub shut : AreShut staged
+  pub some : 0 < length (words_of head)
+  pub holds : AreStagedAs old.ino (placed (span request old.tracker.long) request) head tails
+
+last-at : (es : List (Pending Held)) (e : Pending Held) (q : ℕ) → q ≡ e.place →
+    entry_at es q ≡ None → entry_at (es ++ e ∷ []) q ≡ Some e
+last-at es e q same none =
+    let own : is_at q e ≡ true = grind (arith, nat_tests) in
+    find-append (is_at q) es (e ∷ []) ∙ rw (none, own) refl
+
+or-nothing : (o : Option (Pending Held)) → option_or o None ≡ o
+or-nothing None = refl
+or-nothing (Some x) = refl
+
+beside-at : (es : List (Pending Held)) (e : Pending Held) (q : ℕ) → (q ≡ e.place → ⊥) →
+    entry_at (es ++ e ∷ []) q ≡ entry_at es q
+beside-at es e q apart =
+    let other : is_at q e ≡ false = grind (arith, nat_tests) in
+    find-append (is_at q) es (e ∷ []) ∙ rw other (or-nothing (entry_at es q))
+
+open-leads : (old : StateView) (n : ℕ) (request : Request) (grant : ℕ) (entry : Entry)
+    (staged : Seens) (jobs : List JobView) (core : Core) (world : World) (obeys : Bool)
+    (result : Answer) (asked_old asked_new : List Asked) (slots : Seens) →
+    MayAdmit old.tracker request → IsNext old request entry → IsReady old request staged →
+    (opens : OpensGate obeys (next_place old) result asked_old staged asked_new slots) →
+    Together old jobs core world → length core.log + 2 ≤ n →
+    world.slots (next_place old) ≡ staged →
+    Leads old.ino n entry.place (after core (events.Admit entry grant false))
+    (after core (events.Admit entry grant true)) (after core (events.Admit entry grant false))
+    world opens.now opens.tails result asked_old asked_new
+open-leads old n request grant entry staged jobs core world obeys result asked_old asked_new slots admits next ready opens together bound here =
+    let follows = together.stands.follows in
+    let doubts = follows-doubted old.tracker core request entry grant slots admits follows
+        next.place_is next.request_is in
+    let held : Held = record { place = next_place old; slots = slots } in
+    let admit = follows-admitted old.tracker core request entry grant held admits follows
+        next.place_is next.request_is in
+    let both : opens.head ∷ opens.tails ≡ ready.head ∷ ready.tails = sym opens.old_is ∙ ready.is in
+    let heads : ready.head ≡ opens.head = cc in
+    let tails : ready.tails ≡ opens.tails = cc in
+    let spans : placed (span request old.tracker.long) request
+        ≡ placed (span_now core entry.request) entry.request =
+    rw (next.request_is, follows.long) refl in
+    admissions-show old.ino n grant entry core world opens.head opens.now opens.tails obeys result
+    asked_old asked_new (good (after core (events.Admit entry grant false)) doubts.1.reached)
+    together.stands.shows admit.0 bound
+    (ap (λ p. world.slots p) next.place_is ∙ here ∙ opens.old_is)
+    (subst (λ (h : Seen WordStep). 0 < length (words_of h)) heads ready.some)
+    (subst (λ (r : Request). AreStagedAs old.ino r opens.head opens.tails) spans
+    (subst (λ (h : Seen WordStep). AreStagedAs old.ino
+    (placed (span request old.tracker.long) request) h opens.tails) heads
+    (subst (λ (t : Seens). AreStagedAs old.ino (placed (span request old.tracker.long) request)
+    ready.head t) tails ready.holds)))
+    (subst (λ p. SetsWord obeys 0 p result asked_old opens.head asked_new opens.now)
+    (sym next.place_is) opens.sets)
