@@ -193,3 +193,160 @@ open-leads old n request grant entry staged jobs core world obeys result asked_o
     ready.head t) tails ready.holds)))
     (subst (λ p. SetsWord obeys 0 p result asked_old opens.head asked_new opens.now)
     (sym next.place_is) opens.sets)
+
+-- ---- the call
+
+here-admitted : (old : StateView) (request : Request) (grant place : ℕ) (held : Held)
+    (entry : Pending Held) (kept : Held) → place ≡ next_place old →
+    entry_at old.tracker.entries place ≡ None →
+    entry_at (old.tracker.entries ++ pending request grant held old.tracker ∷ []) place
+    ≡ Some entry → slots_in entry.doing ≡ Some kept → kept ≡ held
+here-admitted old request grant place held entry kept same none there has =
+    let own : Pending Held = pending request grant held old.tracker in
+    let both : Some entry ≡ Some own =
+    sym there ∙ last-at old.tracker.entries own place same none in
+    let one : entry ≡ own = cc in
+    let slots : slots_in entry.doing ≡ Some held =
+    ap (λ (e : Pending Held). slots_in e.doing) one in
+    let is : Some kept ≡ Some held = sym has ∙ slots in
+    cc
+
+pub open-done : (old : StateView) (request : Request) (grant : ℕ) (staged : Seens) (obeys : Bool)
+    (asked_old asked_new : List Asked) (slots : Seens) → MayAdmit old.tracker request →
+    IsReady old request staged →
+    OpensGate obeys (next_place old) (Ok tt) asked_old staged asked_new slots →
+    AdmitMakes request grant true asked_old old asked_new
+    (with_admitted request grant (record { place = next_place old; slots = slots }) old)
+open-done old request grant staged obeys asked_old asked_new slots admits ready opens =
+    λ entry next jobs core world together.
+    let stands = together.stands in
+    let first : ℕ = next_place old in
+    let place : ℕ = entry.place in
+    let held : Held = record { place = first; slots = slots } in
+    let come = staged-come old staged jobs core world asked_old admits.settled ready.shut together in
+    let mid : World = with_slots first staged world in
+    let now : Core = after core (events.Admit entry grant true) in
+    let seens : Seens = opens.now ∷ opens.tails in
+    let free : IsFree core place = subst (λ p. IsFree core p) (sym next.place_is)
+        (next-free old core world stands admits.settled) in
+    let none = none-past old.tracker core place stands.follows (omega (arith, next.place_is)) in
+    let many = tracks-count old.tracker core stands.follows in
+    let admit = follows-admitted old.tracker core request entry grant held admits stands.follows
+        next.place_is next.request_is in
+    let leads : (n : ℕ) → length core.log + 2 ≤ n →
+        Leads old.ino n place (after core (events.Admit entry grant false)) now
+        (after core (events.Admit entry grant false)) mid opens.now opens.tails (Ok tt) asked_old
+        asked_new =
+    λ n bound. open-leads old n request grant entry staged jobs core mid obeys (Ok tt) asked_old
+    asked_new slots admits next ready opens come.together bound
+    (at_place first staged (world.slots first)) in
+    record {
+      run = (admit.0, tt);
+      world = with_slots place seens mid;
+      moments = λ n bound.
+          let less : length core.log + 2 ≤ n =
+          omega (arith, length-append core.log (entry ∷ [])) in
+          let before : (remains : Remains) → Recovers old.ino n core remains →
+              AnyBetween (λ one. Recovers old.ino n one remains) core
+              (events.Admit entry grant true ∷ []) =
+          λ remains recovers. inl recovers in
+          let during : (remains : Remains) →
+              Recovers old.ino n (after core (events.Admit entry grant false)) remains →
+              AnyBetween (λ one. Recovers old.ino n one remains) core
+              (events.Admit entry grant true ∷ []) =
+          λ remains recovers. inr (inl (inl recovers)) in
+          all_after (all_weaker before (come.moments n less))
+          (all_weaker during (leads n less).moments);
+      stands = replaced old (admitted request grant held old.tracker) place seens jobs core now mid
+          (record {
+            follows = admit.1;
+            shows = (leads (length core.log + 2) (omega arith)).ok;
+            cells = refl;
+            free = ap (λ (t : Track). is_out t.state) free.is_blank;
+            tracks = λ q apart.
+                track-beside core.tracks (change_track grant (span_now core entry.request)) q
+                (λ same. apart (omega (arith, same, many, next.place_is)));
+            entries = λ q apart.
+                beside-at old.tracker.entries (pending request grant held old.tracker) q
+                (λ same. apart (omega (arith, same, next.place_is)));
+            here = λ one kept there has.
+                (let is = here-admitted old request grant place held one kept next.place_is none.0
+                    there has in (
+                  ap (λ (h : Held). h.place) is ∙ sym next.place_is,
+                  ap (λ (h : Held). h.slots) is ∙ opens.new_is,
+                ));
+            doubt = λ doubt kept is has.
+                (let clash : None ≡ Some doubt = sym admits.settled ∙ is in cc);
+          }) come.together;
+    }
+
+doubt-is : (mine doubt : InDoubt Seens) (place : ℕ) (slots seens kept : Seens) →
+    Some mine ≡ Some doubt → place ≡ mine.place → mine.slots ≡ Some slots → slots ≡ seens →
+    doubt.slots ≡ Some kept → DoubtGoes None place seens doubt kept
+doubt-is mine doubt place slots seens kept both at are same has =
+    let one : doubt ≡ mine = cc in
+    let kept_is : Some kept ≡ Some slots =
+    sym has ∙ ap (λ (d : InDoubt Seens). d.slots) one ∙ are in
+    let kept_same : kept ≡ slots = cc in
+    comes (ap (λ (d : InDoubt Seens). d.place) one ∙ sym at) (kept_same ∙ same)
+
+pub open-failed : (old : StateView) (request : Request) (grant : ℕ) (staged : Seens)
+    (obeys : Bool) (asked_old asked_new : List Asked) (slots : Seens) →
+    MayAdmit old.tracker request → IsReady old request staged →
+    OpensGate obeys (next_place old) (Err tt) asked_old staged asked_new slots →
+    AdmitMakes request grant false asked_old old asked_new (with_doubted request grant slots old)
+open-failed old request grant staged obeys asked_old asked_new slots admits ready opens =
+    λ entry next jobs core world together.
+    let stands = together.stands in
+    let first : ℕ = next_place old in
+    let place : ℕ = entry.place in
+    let come = staged-come old staged jobs core world asked_old admits.settled ready.shut together in
+    let mid : World = with_slots first staged world in
+    let now : Core = after core (events.Admit entry grant false) in
+    let seens : Seens = opens.now ∷ opens.tails in
+    let free : IsFree core place = subst (λ p. IsFree core p) (sym next.place_is)
+        (next-free old core world stands admits.settled) in
+    let none = none-past old.tracker core place stands.follows (omega (arith, next.place_is)) in
+    let doubts = follows-doubted old.tracker core request entry grant slots admits stands.follows
+        next.place_is next.request_is in
+    let mine : InDoubt Seens = record {
+          place = first;
+          grant = grant;
+          span = span request old.tracker.long;
+          slots = Some slots;
+        } in
+    let leads : (n : ℕ) → length core.log + 2 ≤ n →
+        Leads old.ino n place now (after core (events.Admit entry grant true)) now mid opens.now
+        opens.tails (Err tt) asked_old asked_new =
+    λ n bound. open-leads old n request grant entry staged jobs core mid obeys (Err tt) asked_old
+    asked_new slots admits next ready opens come.together bound
+    (at_place first staged (world.slots first)) in
+    record {
+      run = (doubts.0, tt);
+      world = with_slots place seens mid;
+      moments = λ n bound.
+          let before : (remains : Remains) → Recovers old.ino n core remains →
+              AnyBetween (λ one. Recovers old.ino n one remains) core
+              (events.Admit entry grant false ∷ []) =
+          λ remains recovers. inl recovers in
+          let during : (remains : Remains) → Recovers old.ino n now remains →
+              AnyBetween (λ one. Recovers old.ino n one remains) core
+              (events.Admit entry grant false ∷ []) =
+          λ remains recovers. inr (inl (inl recovers)) in
+          all_after (all_weaker before (come.moments n bound))
+          (all_weaker during (leads n bound).moments);
+      stands = replaced old (doubted request grant slots old.tracker) place seens jobs core now mid
+          (record {
+            follows = doubts.1;
+            shows = (leads (length core.log + 2) (omega arith)).err;
+            cells = refl;
+            free = ap (λ (t : Track). is_out t.state) free.is_blank;
+            tracks = λ q apart. refl;
+            entries = λ q apart. refl;
+            here = λ one kept there has. (let clash : None ≡ Some one = sym none.0 ∙ there in cc);
+            doubt = λ doubt kept is has.
+                subst (λ (o : Option (InDoubt Seens)). DoubtGoes o place seens doubt kept)
+                (sym admits.settled)
+                (doubt-is mine doubt place slots seens kept is next.place_is refl opens.new_is has);
+          }) come.together;
+    }
