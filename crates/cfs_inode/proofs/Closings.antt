@@ -8,6 +8,7 @@ use Rattle.cfs_pmem.specs.WordOps.{SetsWord}
 use Rattle.cfs_medium.specs.SlotEvents.{Answer}
 use Rattle.cfs_inode.specs.View.{Seens}
 use Rattle.cfs_inode.specs.Ends.{Closes}
+use Rattle.cfs_inode.specs.Opening.{OpensGate}
 
 abbrev plain-ok : Answer
 plain-ok = Ok tt
@@ -65,6 +66,36 @@ pub closes-err : {R T E : Type 0} {obeys : Bool} (seen : R → Seen WordStep) (h
     news ≡ now ∷ tails →
     Closes obeys plain-err asked_old (map seen (head ∷ tails)) asked_new (map seen news)
 closes-err seen head now tails news e sets is = record {
+  head = seen head;
+  now = seen now;
+  tails = map seen tails;
+  old_is = refl;
+  new_is = ap (λ xs. map seen xs) is;
+  sets = sets-err e sets;
+}
+
+-- the slots of a request behind a call that opened their gate, or failed to
+
+pub opens-ok : {R T E : Type 0} {obeys : Bool} {place : ℕ} (seen : R → Seen WordStep)
+    (head now : R) (tails news : List R) (t : T) {asked_old asked_new : List Asked} →
+    SetsWord {T = T} {E = E} obeys 0 place (Ok t) asked_old (seen head) asked_new (seen now) →
+    news ≡ now ∷ tails →
+    OpensGate obeys place plain-ok asked_old (map seen (head ∷ tails)) asked_new (map seen news)
+opens-ok seen head now tails news t sets is = record {
+  head = seen head;
+  now = seen now;
+  tails = map seen tails;
+  old_is = refl;
+  new_is = ap (λ xs. map seen xs) is;
+  sets = sets-ok t sets;
+}
+
+pub opens-err : {R T E : Type 0} {obeys : Bool} {place : ℕ} (seen : R → Seen WordStep)
+    (head now : R) (tails news : List R) (e : E) {asked_old asked_new : List Asked} →
+    SetsWord {T = T} {E = E} obeys 0 place (Err e) asked_old (seen head) asked_new (seen now) →
+    news ≡ now ∷ tails →
+    OpensGate obeys place plain-err asked_old (map seen (head ∷ tails)) asked_new (map seen news)
+opens-err seen head now tails news e sets is = record {
   head = seen head;
   now = seen now;
   tails = map seen tails;

@@ -6,4 +6,5 @@ pub mod Closings
 pub mod Skips
 pub mod Settlings
 pub mod Openings
+pub mod Readies
 pub mod States

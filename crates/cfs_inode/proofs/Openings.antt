@@ -350,3 +350,16 @@ open-failed old request grant staged obeys asked_old asked_new slots admits read
                 (doubt-is mine doubt place slots seens kept is next.place_is refl opens.new_is has);
           }) come.together;
     }
+
+pub open-kept : (old new : StateView) (request : Request) (grant : ℕ) (staged : Seens)
+    (obeys : Bool) (asked_old asked_new : List Asked) (place : ℕ) (slots : Seens) →
+    MayAdmit old.tracker request → IsReady old request staged → place ≡ next_place old →
+    OpensGate obeys place (Ok tt) asked_old staged asked_new slots →
+    new ≡ with_admitted request grant (record { place = place; slots = slots }) old →
+    AdmitMakes request grant true asked_old old asked_new new
+open-kept old new request grant staged obeys asked_old asked_new place slots admits ready same opens is =
+    subst (λ (s : StateView). AdmitMakes request grant true asked_old old asked_new s)
+    (sym (is ∙ ap (λ (p : ℕ). with_admitted request grant (record { place = p; slots = slots }) old)
+    same))
+    (open-done old request grant staged obeys asked_old asked_new slots admits ready
+    (subst (λ p. OpensGate obeys p (Ok tt) asked_old staged asked_new slots) same opens))

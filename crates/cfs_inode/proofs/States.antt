@@ -1,18 +1,22 @@
 -- What a state is seen as when its tracker has changed.
-use Rattle.std.proofs.Common.{◌≡◌, ◌∙◌, ap, List, Option, None, Some, map, refl, sym, true, ℕ}
+use Rattle.std.proofs.Common.{◌≡◌, ◌∙◌, ap, List, [], ◌∷◌, Option, None, Some, map, refl, sym, true, ℕ}
 use Rattle.std.specs.Prelude.{is_some}
+use Rattle.std.proofs.lemmas.List.{map-append}
+use Rattle.cfs_file.specs.declared.request.Request.{Request}
 use Rattle.cfs_pmem.specs.Images.{Seen, WordStep}
 use Rattle.cfs_block.specs.BlockImages.{BlockStep}
 use Rattle.cfs_slot.specs.declared.doubt.Doubt.{Doubt}
 use Rattle.cfs_slot.specs.declared.live.Live.{Live}
 use Rattle.cfs_tracker.specs.declared.in_doubt.InDoubt.{InDoubt}
 use Rattle.cfs_tracker.specs.declared.tracker.Tracker.{Tracker}
+use Rattle.cfs_tracker.specs.Admit.{admitted, doubted, pending}
 use Rattle.cfs_tracker.specs.Settle.{doubt_slots, settled, settling, unsettled, with_slots}
 use Rattle.cfs_tracker.specs.Skip.{closing, covered_slots, skipped, unclosed}
 use Rattle.cfs_tracker.specs.View.{TrackerView, entry_at, view_of}
 use Rattle.cfs_inode.specs.declared.state.State.{State}
 use Rattle.cfs_inode.specs.Ends.{noop_at, slots_in_doubt, with_doubt, with_noop, without_doubt, without_noop}
-use Rattle.cfs_inode.specs.View.{Held, StateView, held_of, seens_of, state_view, told, told_doubt, told_option}
+use Rattle.cfs_inode.specs.Opening.{with_admitted, with_doubted}
+use Rattle.cfs_inode.specs.View.{Held, StateView, held_of, seens_of, state_view, told, told_doubt, told_entry, told_option}
 use Rattle.cfs_inode.proofs.Tells.{covered-told, told-skipped, told-unclosed}
 
 -- the state with another tracker, seen by what that tracker is seen as
@@ -131,3 +135,28 @@ state-unsettled words bytes state now mid doubt is was =
     ∙ ap (λ d. record (state_view words bytes state) {
       tracker = record (state_view words bytes state).tracker { doubt = d };
     }) (back-told (seens_of words) (view_of state.tracker).doubt doubt)
+
+-- ---- an admission
+
+pub state-admitted : {R B : Type 0} {g : _} (words : R → Seen WordStep)
+    (bytes : B → Seen BlockStep) (state : State R B (Live R g) (Doubt R g))
+    (now : Tracker (Live R g) (Doubt R g) B) (request : Request) (grant : ℕ) (live : Live R g) →
+    view_of now ≡ admitted request grant live (view_of state.tracker) →
+    state_view words bytes (record state { tracker = now })
+    ≡ with_admitted request grant (held_of words live) (state_view words bytes state)
+state-admitted {R} {B} {g} words bytes state now request grant live is =
+    state-told words bytes state now (admitted request grant live (view_of state.tracker)) is
+    ∙ ap (λ es. record (state_view words bytes state) {
+      tracker = record (admitted request grant (held_of words live)
+          (state_view words bytes state).tracker) { entries = es };
+    }) (map-append (told_entry (held_of {R = R} {g = g} words)) (view_of state.tracker).entries
+    (pending request grant live (view_of state.tracker) ∷ []))
+
+pub state-doubted : {R B : Type 0} {g : _} (words : R → Seen WordStep)
+    (bytes : B → Seen BlockStep) (state : State R B (Live R g) (Doubt R g))
+    (now : Tracker (Live R g) (Doubt R g) B) (request : Request) (grant : ℕ) (doubt : Doubt R g) →
+    view_of now ≡ doubted request grant doubt (view_of state.tracker) →
+    state_view words bytes (record state { tracker = now })
+    ≡ with_doubted request grant (seens_of words doubt) (state_view words bytes state)
+state-doubted words bytes state now request grant doubt is =
+    state-told words bytes state now (doubted request grant doubt (view_of state.tracker)) is

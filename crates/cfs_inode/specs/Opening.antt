@@ -57,3 +57,7 @@ Opens obeys request grant staged (Err fault) asked_old old asked_new new =
     (slots : Seens)
     × (OpensGate obeys (next_place old) (Err tt) asked_old staged asked_new slots
     × (new ≡ with_doubted request grant slots old))
+
+abbrev pub is_kept : Result ℕ (Unit {0}) → Bool
+is_kept (Ok place) = true
+is_kept (Err fault) = false

@@ -2,6 +2,7 @@
 #![tactic(auto)]
 
 mod answers;
+mod open;
 mod reading;
 mod settle;
 mod skip;
