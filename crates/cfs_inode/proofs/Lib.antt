@@ -7,4 +7,5 @@ pub mod Skips
 pub mod Settlings
 pub mod Openings
 pub mod Readies
+pub mod Quiet
 pub mod States

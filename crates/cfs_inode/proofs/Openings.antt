@@ -48,7 +48,7 @@ use Rattle.cfs_inode.proofs.Replacing.DoubtGoes.{comes}
 
 -- ---- the next place
 
-past-blank : (tracks : List Track) (q : ℕ) → length tracks < q → track tracks q ≡ blank
+pub past-blank : (tracks : List Track) (q : ℕ) → length tracks < q → track tracks q ≡ blank
 past-blank tracks q less =
     let some : q ≡ 0 → ⊥ = (λ zero_is. omega arith) in
     track_is tracks q (q - 1) some refl ∙ get_or_past tracks (q - 1) blank (omega arith)

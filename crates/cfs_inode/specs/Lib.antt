@@ -3,3 +3,4 @@ pub mod Stands
 pub mod Makes
 pub mod Ends
 pub mod Opening
+pub mod Reads
