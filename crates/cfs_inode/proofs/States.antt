@@ -10,12 +10,14 @@ use Rattle.cfs_slot.specs.declared.live.Live.{Live}
 use Rattle.cfs_tracker.specs.declared.in_doubt.InDoubt.{InDoubt}
 use Rattle.cfs_tracker.specs.declared.tracker.Tracker.{Tracker}
 use Rattle.cfs_tracker.specs.Admit.{admitted, doubted, pending}
+use Rattle.cfs_tracker.specs.Reads.{read_admitted, read_ended}
 use Rattle.cfs_tracker.specs.Settle.{doubt_slots, settled, settling, unsettled, with_slots}
 use Rattle.cfs_tracker.specs.Skip.{closing, covered_slots, skipped, unclosed}
 use Rattle.cfs_tracker.specs.View.{TrackerView, entry_at, view_of}
 use Rattle.cfs_inode.specs.declared.state.State.{State}
 use Rattle.cfs_inode.specs.Ends.{noop_at, slots_in_doubt, with_doubt, with_noop, without_doubt, without_noop}
 use Rattle.cfs_inode.specs.Opening.{with_admitted, with_doubted}
+use Rattle.cfs_inode.specs.Reads.{with_read, without_read}
 use Rattle.cfs_inode.specs.View.{Held, StateView, held_of, seens_of, state_view, told, told_doubt, told_entry, told_option}
 use Rattle.cfs_inode.proofs.Tells.{covered-told, told-skipped, told-unclosed}
 
@@ -160,3 +162,21 @@ pub state-doubted : {R B : Type 0} {g : _} (words : R → Seen WordStep)
     ≡ with_doubted request grant (seens_of words doubt) (state_view words bytes state)
 state-doubted words bytes state now request grant doubt is =
     state-told words bytes state now (doubted request grant doubt (view_of state.tracker)) is
+
+-- ---- reads
+
+pub state-read : {R B : Type 0} {g : _} (words : R → Seen WordStep) (bytes : B → Seen BlockStep)
+    (state : State R B (Live R g) (Doubt R g)) (now : Tracker (Live R g) (Doubt R g) B)
+    (request : Request) → view_of now ≡ read_admitted request (view_of state.tracker) →
+    state_view words bytes (record state { tracker = now })
+    ≡ with_read request (state_view words bytes state)
+state-read words bytes state now request is =
+    state-told words bytes state now (read_admitted request (view_of state.tracker)) is
+
+pub state-dropped : {R B : Type 0} {g : _} (words : R → Seen WordStep) (bytes : B → Seen BlockStep)
+    (state : State R B (Live R g) (Doubt R g)) (now : Tracker (Live R g) (Doubt R g) B)
+    (place : ℕ) → view_of now ≡ read_ended place (view_of state.tracker) →
+    state_view words bytes (record state { tracker = now })
+    ≡ without_read place (state_view words bytes state)
+state-dropped words bytes state now place is =
+    state-told words bytes state now (read_ended place (view_of state.tracker)) is

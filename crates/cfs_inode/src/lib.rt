@@ -4,6 +4,7 @@
 mod answers;
 mod open;
 mod reading;
+mod reads;
 mod settle;
 mod skip;
 mod state;
