@@ -8,4 +8,5 @@ pub mod Settlings
 pub mod Openings
 pub mod Readies
 pub mod Quiet
+pub mod Composing
 pub mod States

@@ -244,8 +244,6 @@ open-done old request grant staged obeys asked_old asked_new slots admits ready 
       run = (admit.0, tt);
       world = with_slots place seens mid;
       moments = λ n bound.
-          let less : length core.log + 2 ≤ n =
-          omega (arith, length-append core.log (entry ∷ [])) in
           let before : (remains : Remains) → Recovers old.ino n core remains →
               AnyBetween (λ one. Recovers old.ino n one remains) core
               (events.Admit entry grant true ∷ []) =
@@ -255,8 +253,8 @@ open-done old request grant staged obeys asked_old asked_new slots admits ready 
               AnyBetween (λ one. Recovers old.ino n one remains) core
               (events.Admit entry grant true ∷ []) =
           λ remains recovers. inr (inl (inl recovers)) in
-          all_after (all_weaker before (come.moments n less))
-          (all_weaker during (leads n less).moments);
+          all_after (all_weaker before (come.moments n bound.0))
+          (all_weaker during (leads n bound.0).moments);
       stands = replaced old (admitted request grant held old.tracker) place seens jobs core now mid
           (record {
             follows = admit.1;
@@ -333,8 +331,8 @@ open-failed old request grant staged obeys asked_old asked_new slots admits read
               AnyBetween (λ one. Recovers old.ino n one remains) core
               (events.Admit entry grant false ∷ []) =
           λ remains recovers. inr (inl (inl recovers)) in
-          all_after (all_weaker before (come.moments n bound))
-          (all_weaker during (leads n bound).moments);
+          all_after (all_weaker before (come.moments n bound.0))
+          (all_weaker during (leads n bound.0).moments);
       stands = replaced old (doubted request grant slots old.tracker) place seens jobs core now mid
           (record {
             follows = doubts.1;

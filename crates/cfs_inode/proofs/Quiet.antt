@@ -83,7 +83,7 @@ stayed old tracker event asked jobs core world stays together =
     record {
       run = (stays.come, tt);
       world = world;
-      moments = λ n bound. all_begun asked world tt (give n bound);
+      moments = λ n bound. all_begun asked world tt (give n bound.1);
       stands = record {
         stands = record {
           follows = stays.follows;

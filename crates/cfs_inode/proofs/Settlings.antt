@@ -124,7 +124,7 @@ settle-done old was obeys asked_old asked_new slots h closes = λ jobs core worl
           let give : (remains : Remains) → Recovers old.ino n core remains →
               AnyBetween (λ one. Recovers old.ino n one remains) core (events.Settle ∷ []) =
           λ remains recovers. inl recovers in
-          all_weaker give (leads n bound).moments;
+          all_weaker give (leads n bound.0).moments;
       stands = replaced old (settled old.tracker) place seens jobs core now world
           (record {
             follows = settles.1;

@@ -194,7 +194,7 @@ skip-done old place held obeys asked_old asked_new slots h closes = λ jobs core
           let give : (remains : Remains) → Recovers old.ino n core remains →
               AnyBetween (λ one. Recovers old.ino n one remains) core (events.Skip place ∷ []) =
           λ remains recovers. inl recovers in
-          all_weaker give (leads n bound).moments;
+          all_weaker give (leads n bound.0).moments;
       stands = replaced old (skipped place old.tracker) place seens jobs core now world
           (record {
             follows = skips.1;

@@ -25,6 +25,12 @@ AnyBetween P core [] = P core
 AnyBetween P core (event ∷ events) =
     P core ⊎ (BehindOne P core (within core event) ⊎ AnyBetween P (after core event) events)
 
+-- Places below n are enough to look at in each core that the events come by.
+abbrev pub AreEnough : ℕ → Core → List Event → Type 0
+AreEnough n core [] = length core.log + 2 ≤ n
+AreEnough n core (event ∷ events) =
+    (length core.log + 2 ≤ n) × AreEnough n (after core event) events
+
 -- The events may come one after another. At each moment of the device calls that lead from one
 -- world to the other, whatever a crash leaves recovers the file of a core that they come by. Behind
 -- them the core and the world have Q.
@@ -32,7 +38,7 @@ pub record Made (ino : ℕ) (events : List Event) (Q : Core → World → Type 0
     (core : Core) (asked_old : List Asked) (old : World) (asked_new : List Asked) : Type 0 where
   pub run : IsRun core events
   pub world : World
-  pub moments : (n : ℕ) → length (after_all core events).log + 2 ≤ n →
+  pub moments : (n : ℕ) → AreEnough n core events →
       WorldMoments (λ remains. AnyBetween (λ one. Recovers ino n one remains) core events)
       asked_old old asked_new world
   pub stands : Q (after_all core events) world
