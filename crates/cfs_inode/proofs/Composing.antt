@@ -62,12 +62,12 @@ makes-then ino P Q Z first second asked_old asked_mid asked_new one two = λ cor
       world = rest.world;
       moments = λ n enough.
           let before : (remains : Remains) →
-              AnyBetween (λ c. Recovers ino n c remains) core first →
-              AnyBetween (λ c. Recovers ino n c remains) core (first ++ second) =
+          AnyBetween (λ c. Recovers ino n c remains) core first →
+          AnyBetween (λ c. Recovers ino n c remains) core (first ++ second) =
           λ remains any. between-first (λ c. Recovers ino n c remains) core first second any in
           let behind : (remains : Remains) →
-              AnyBetween (λ c. Recovers ino n c remains) (after_all core first) second →
-              AnyBetween (λ c. Recovers ino n c remains) core (first ++ second) =
+          AnyBetween (λ c. Recovers ino n c remains) (after_all core first) second →
+          AnyBetween (λ c. Recovers ino n c remains) core (first ++ second) =
           λ remains any. between-second (λ c. Recovers ino n c remains) core first second any in
           all_after
           (all_weaker before (made.moments n (enough-first n core first second enough)))

@@ -68,7 +68,7 @@ pub next-free : (old : StateView) (core : Core) (world : World) → Stands old c
     old.tracker.doubt ≡ None → IsFree core (next_place old)
 next-free old core world stands settled =
     let past = past-blank core.tracks (next_place old)
-        (omega (arith, tracks-count old.tracker core stands.follows)) in
+    (omega (arith, tracks-count old.tracker core stands.follows)) in
     let none = no-doubt old.tracker.doubt core.doubt stands.follows.doubt settled in
     record {
       is_blank = past;
@@ -108,8 +108,8 @@ staged-come old staged jobs core world asked settled shut together =
     let place : ℕ = next_place old in
     let free = next-free old core world stands settled in
     let come : (n : ℕ) → length core.log + 2 ≤ n →
-        WorldMoments (Recovers old.ino n core) asked world asked (with_slots place staged world)
-        × Shows old.ino core (with_slots place staged world) =
+    WorldMoments (Recovers old.ino n core) asked world asked (with_slots place staged world)
+    × Shows old.ino core (with_slots place staged world) =
     λ n bound. slots-come old.ino n place core world staged asked stands.shows
     (shut-here old.ino place core world stands.shows free) shut
     (good core stands.follows.reached) bound
@@ -171,15 +171,15 @@ open-leads : (old : StateView) (n : ℕ) (request : Request) (grant : ℕ) (entr
 open-leads old n request grant entry staged jobs core world obeys result asked_old asked_new slots admits next ready opens together bound here =
     let follows = together.stands.follows in
     let doubts = follows-doubted old.tracker core request entry grant slots admits follows
-        next.place_is next.request_is in
+    next.place_is next.request_is in
     let held : Held = record { place = next_place old; slots = slots } in
     let admit = follows-admitted old.tracker core request entry grant held admits follows
-        next.place_is next.request_is in
+    next.place_is next.request_is in
     let both : opens.head ∷ opens.tails ≡ ready.head ∷ ready.tails = sym opens.old_is ∙ ready.is in
     let heads : ready.head ≡ opens.head = cc in
     let tails : ready.tails ≡ opens.tails = cc in
     let spans : placed (span request old.tracker.long) request
-        ≡ placed (span_now core entry.request) entry.request =
+    ≡ placed (span_now core entry.request) entry.request =
     rw (next.request_is, follows.long) refl in
     admissions-show old.ino n grant entry core world opens.head opens.now opens.tails obeys result
     asked_old asked_new (good (after core (events.Admit entry grant false)) doubts.1.reached)
@@ -228,15 +228,15 @@ open-done old request grant staged obeys asked_old asked_new slots admits ready 
     let now : Core = after core (events.Admit entry grant true) in
     let seens : Seens = opens.now ∷ opens.tails in
     let free : IsFree core place = subst (λ p. IsFree core p) (sym next.place_is)
-        (next-free old core world stands admits.settled) in
+    (next-free old core world stands admits.settled) in
     let none = none-past old.tracker core place stands.follows (omega (arith, next.place_is)) in
     let many = tracks-count old.tracker core stands.follows in
     let admit = follows-admitted old.tracker core request entry grant held admits stands.follows
-        next.place_is next.request_is in
+    next.place_is next.request_is in
     let leads : (n : ℕ) → length core.log + 2 ≤ n →
-        Leads old.ino n place (after core (events.Admit entry grant false)) now
-        (after core (events.Admit entry grant false)) mid opens.now opens.tails (Ok tt) asked_old
-        asked_new =
+    Leads old.ino n place (after core (events.Admit entry grant false)) now
+    (after core (events.Admit entry grant false)) mid opens.now opens.tails (Ok tt) asked_old
+    asked_new =
     λ n bound. open-leads old n request grant entry staged jobs core mid obeys (Ok tt) asked_old
     asked_new slots admits next ready opens come.together bound
     (at_place first staged (world.slots first)) in
@@ -245,13 +245,13 @@ open-done old request grant staged obeys asked_old asked_new slots admits ready 
       world = with_slots place seens mid;
       moments = λ n bound.
           let before : (remains : Remains) → Recovers old.ino n core remains →
-              AnyBetween (λ one. Recovers old.ino n one remains) core
-              (events.Admit entry grant true ∷ []) =
+          AnyBetween (λ one. Recovers old.ino n one remains) core
+          (events.Admit entry grant true ∷ []) =
           λ remains recovers. inl recovers in
           let during : (remains : Remains) →
-              Recovers old.ino n (after core (events.Admit entry grant false)) remains →
-              AnyBetween (λ one. Recovers old.ino n one remains) core
-              (events.Admit entry grant true ∷ []) =
+          Recovers old.ino n (after core (events.Admit entry grant false)) remains →
+          AnyBetween (λ one. Recovers old.ino n one remains) core
+          (events.Admit entry grant true ∷ []) =
           λ remains recovers. inr (inl (inl recovers)) in
           all_after (all_weaker before (come.moments n bound.0))
           (all_weaker during (leads n bound.0).moments);
@@ -269,7 +269,7 @@ open-done old request grant staged obeys asked_old asked_new slots admits ready 
                 (λ same. apart (omega (arith, same, next.place_is)));
             here = λ one kept there has.
                 (let is = here-admitted old request grant place held one kept next.place_is none.0
-                    there has in (
+                there has in (
                   ap (λ (h : Held). h.place) is ∙ sym next.place_is,
                   ap (λ (h : Held). h.slots) is ∙ opens.new_is,
                 ));
@@ -303,19 +303,19 @@ open-failed old request grant staged obeys asked_old asked_new slots admits read
     let now : Core = after core (events.Admit entry grant false) in
     let seens : Seens = opens.now ∷ opens.tails in
     let free : IsFree core place = subst (λ p. IsFree core p) (sym next.place_is)
-        (next-free old core world stands admits.settled) in
+    (next-free old core world stands admits.settled) in
     let none = none-past old.tracker core place stands.follows (omega (arith, next.place_is)) in
     let doubts = follows-doubted old.tracker core request entry grant slots admits stands.follows
-        next.place_is next.request_is in
+    next.place_is next.request_is in
     let mine : InDoubt Seens = record {
-          place = first;
-          grant = grant;
-          span = span request old.tracker.long;
-          slots = Some slots;
-        } in
+      place = first;
+      grant = grant;
+      span = span request old.tracker.long;
+      slots = Some slots;
+    } in
     let leads : (n : ℕ) → length core.log + 2 ≤ n →
-        Leads old.ino n place now (after core (events.Admit entry grant true)) now mid opens.now
-        opens.tails (Err tt) asked_old asked_new =
+    Leads old.ino n place now (after core (events.Admit entry grant true)) now mid opens.now
+    opens.tails (Err tt) asked_old asked_new =
     λ n bound. open-leads old n request grant entry staged jobs core mid obeys (Err tt) asked_old
     asked_new slots admits next ready opens come.together bound
     (at_place first staged (world.slots first)) in
@@ -324,12 +324,12 @@ open-failed old request grant staged obeys asked_old asked_new slots admits read
       world = with_slots place seens mid;
       moments = λ n bound.
           let before : (remains : Remains) → Recovers old.ino n core remains →
-              AnyBetween (λ one. Recovers old.ino n one remains) core
-              (events.Admit entry grant false ∷ []) =
+          AnyBetween (λ one. Recovers old.ino n one remains) core
+          (events.Admit entry grant false ∷ []) =
           λ remains recovers. inl recovers in
           let during : (remains : Remains) → Recovers old.ino n now remains →
-              AnyBetween (λ one. Recovers old.ino n one remains) core
-              (events.Admit entry grant false ∷ []) =
+          AnyBetween (λ one. Recovers old.ino n one remains) core
+          (events.Admit entry grant false ∷ []) =
           λ remains recovers. inr (inl (inl recovers)) in
           all_after (all_weaker before (come.moments n bound.0))
           (all_weaker during (leads n bound.0).moments);

@@ -77,7 +77,7 @@ stayed old tracker event asked jobs core world stays together =
     let stands = together.stands in
     let now : Core = after core event in
     let give : (n : ℕ) → length now.log + 2 ≤ n → (remains : Remains) → MayRemain world remains →
-        AnyBetween (λ one. Recovers old.ino n one remains) core (event ∷ []) =
+    AnyBetween (λ one. Recovers old.ino n one remains) core (event ∷ []) =
     λ n bound remains may_be. inr (inr (shown-recovers old.ino n now world
     (good now stays.follows.reached) stays.shows bound remains may_be)) in
     record {
@@ -117,7 +117,7 @@ pub read-made : (old : StateView) (request : Request) → is_query request ≡ t
 read-made old request query = λ entry next asked jobs core world together.
     let stands = together.stands in
     let reads = follows-read old.tracker core request entry query stands.follows next.place_is
-        next.request_is in
+    next.request_is in
     stayed old (read_admitted request old.tracker) (events.AdmitRead entry) asked jobs core world
     (record {
       come = reads.0;

@@ -80,20 +80,20 @@ replaced-slots : (old : StateView) (tracker : TrackerView Held Seens (Seen Block
     slots_in entry.doing ≡ Some held → AreHeld q held (with_slots place seens world)
 replaced-slots old tracker place seens core now world puts stands q entry held there has =
     elim (same_or_not q place) [
-  | inl same ↦
-      let at : entry_at tracker.entries place ≡ Some entry = rw (sym same) there in
-      let is = puts.here entry held at has in
-      record {
-        opened = is.0 ∙ sym same;
-        here = rw same (at_place place seens (world.slots place)) ∙ sym is.1;
-      }
-  | inr apart ↦
-      let was = stands.slots q entry held (sym (puts.entries q apart) ∙ there) has in
-      record {
-        opened = was.opened;
-        here = at_other q place seens (world.slots q) apart ∙ was.here;
-      }
-]
+      | inl same ↦
+          let at : entry_at tracker.entries place ≡ Some entry = rw (sym same) there in
+          let is = puts.here entry held at has in
+          record {
+            opened = is.0 ∙ sym same;
+            here = rw same (at_place place seens (world.slots place)) ∙ sym is.1;
+          }
+      | inr apart ↦
+          let was = stands.slots q entry held (sym (puts.entries q apart) ∙ there) has in
+          record {
+            opened = was.opened;
+            here = at_other q place seens (world.slots q) apart ∙ was.here;
+          }
+    ]
 
 doubt-goes : (old : StateView) (place : ℕ) (seens : Seens) (core : Core) (world : World) →
     Stands old core world → (doubt : InDoubt Seens) (slots : Seens) →

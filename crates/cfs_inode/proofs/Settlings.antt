@@ -113,8 +113,8 @@ settle-done old was obeys asked_old asked_new slots h closes = λ jobs core worl
     let now : Core = after core events.Settle in
     let seens : Seens = closes.now ∷ closes.tails in
     let leads : (n : ℕ) → length core.log + 2 ≤ n →
-        Leads old.ino n place core now core world closes.now closes.tails (Ok tt) asked_old
-        asked_new =
+    Leads old.ino n place core now core world closes.now closes.tails (Ok tt) asked_old
+    asked_new =
     λ n bound. settle-leads old n was core world obeys (Ok tt) asked_old asked_new slots k stands
     closes bound in
     record {
@@ -122,7 +122,7 @@ settle-done old was obeys asked_old asked_new slots h closes = λ jobs core worl
       world = with_slots_at place seens world;
       moments = λ n bound.
           let give : (remains : Remains) → Recovers old.ino n core remains →
-              AnyBetween (λ one. Recovers old.ino n one remains) core (events.Settle ∷ []) =
+          AnyBetween (λ one. Recovers old.ino n one remains) core (events.Settle ∷ []) =
           λ remains recovers. inl recovers in
           all_weaker give (leads n bound.0).moments;
       stands = replaced old (settled old.tracker) place seens jobs core now world
@@ -192,8 +192,8 @@ settle-failed old was obeys asked_old asked_new slots h closes = λ jobs core wo
     let step = (steps-in core stands.follows.reached).doubt k.theirs k.there in
     let seens : Seens = closes.now ∷ closes.tails in
     let leads : (n : ℕ) → length core.log + 2 ≤ n →
-        Leads old.ino n place core (after core events.Settle) core world closes.now closes.tails
-        (Err tt) asked_old asked_new =
+    Leads old.ino n place core (after core events.Settle) core world closes.now closes.tails
+    (Err tt) asked_old asked_new =
     λ n bound. settle-leads old n was core world obeys (Err tt) asked_old asked_new slots k stands
     closes bound in
     record {

@@ -183,8 +183,8 @@ skip-done old place held obeys asked_old asked_new slots h closes = λ jobs core
     let now : Core = after core (events.Skip place) in
     let seens : Seens = closes.now ∷ closes.tails in
     let leads : (n : ℕ) → length core.log + 2 ≤ n →
-        Leads old.ino n place core now core world closes.now closes.tails (Ok tt) asked_old
-        asked_new =
+    Leads old.ino n place core now core world closes.now closes.tails (Ok tt) asked_old
+    asked_new =
     λ n bound. skip-leads old n place held core world obeys (Ok tt) asked_old asked_new slots h
     stands closes bound in
     record {
@@ -192,7 +192,7 @@ skip-done old place held obeys asked_old asked_new slots h closes = λ jobs core
       world = with_slots place seens world;
       moments = λ n bound.
           let give : (remains : Remains) → Recovers old.ino n core remains →
-              AnyBetween (λ one. Recovers old.ino n one remains) core (events.Skip place ∷ []) =
+          AnyBetween (λ one. Recovers old.ino n one remains) core (events.Skip place ∷ []) =
           λ remains recovers. inl recovers in
           all_weaker give (leads n bound.0).moments;
       stands = replaced old (skipped place old.tracker) place seens jobs core now world
@@ -219,7 +219,7 @@ back-here : (es : List (Pending Held)) (place : ℕ) (held now : Held) (entry : 
 back-here es place held now entry kept h there has =
     let was = covered-there (entry_at es place) held h in
     let is : entry_at (with_entry place (doing (doings.Covered now)) es) place
-        ≡ Some (doing (doings.Covered now) was.0) =
+    ≡ Some (doing (doings.Covered now) was.0) =
     here-with es place (doing (doings.Covered now)) (λ e. refl)
     ∙ ap (λ (o : Option (Pending Held)). option_map (doing (doings.Covered now)) o) was.1 in
     let both : Some entry ≡ Some (doing (doings.Covered now) was.0) = sym there ∙ is in
@@ -243,8 +243,8 @@ skip-failed old place held obeys asked_old asked_new slots h closes = λ jobs co
     let seens : Seens = closes.now ∷ closes.tails in
     let back : Held = record held { slots = slots } in
     let leads : (n : ℕ) → length core.log + 2 ≤ n →
-        Leads old.ino n place core (after core (events.Skip place)) core world closes.now
-        closes.tails (Err tt) asked_old asked_new =
+    Leads old.ino n place core (after core (events.Skip place)) core world closes.now
+    closes.tails (Err tt) asked_old asked_new =
     λ n bound. skip-leads old n place held core world obeys (Err tt) asked_old asked_new slots h
     stands closes bound in
     record {

@@ -15,10 +15,7 @@ impl<R: Region + Drop, B: Block + Drop> InodeState<R, B> {
     /// Closes the gate of the request in doubt, in two writing steps, and gives its slots. It
     /// answers `Nothing` exactly where nothing is in doubt, and `Failed` for a device fault alone:
     /// then the request is still in doubt.
-    pub fn settle<P: Power>(
-        &mut self,
-        power: &mut P,
-    ) -> CloseAnswer<FixedVec<Slot<R>, QUEUE_SLOTS>>
+    pub fn settle<P: Power>(&mut self, power: &mut P) -> CloseAnswer<FixedVec<Slot<R>, QUEUE_SLOTS>>
         ensures settles { Settles R.obeys_power (end_of R.seen result)
             (P.asked power.old) (state_view R.seen B.seen self.old)
             (P.asked power.new) (state_view R.seen B.seen self.new) }

@@ -18,11 +18,10 @@ returns-in-Ok-clause-opens g c =
     let old = state_view seen g.B.Block.seen c.args.self.now in
     let slots = map seen (regions_of c.in-Ok.live) in
     let place : c.count-place.result + 1 ≡ c.admit.result =
-        ap (λ (n : ℕ). n + 1) c.count-place.ensures ∙ sym c.admit.ensures.place in
+    ap (λ (n : ℕ). n + 1) c.count-place.ensures ∙ sym c.admit.ensures.place in
     let gate = opens-ok seen (of_staged c.args.staged) (of_live c.in-Ok.live)
-        (tails_of_staged c.args.staged) (regions_of c.in-Ok.live) c.in-Ok.live c.in-Ok.ensures.set
-        (ap (λ ts. of_live c.in-Ok.live ∷ ts) c.in-Ok.ensures.tails) in
-    (
+    (tails_of_staged c.args.staged) (regions_of c.in-Ok.live) c.in-Ok.live c.in-Ok.ensures.set
+    (ap (λ ts. of_live c.in-Ok.live ∷ ts) c.in-Ok.ensures.tails) in (
       slots,
       c.admit.ensures.place,
       (
@@ -32,9 +31,9 @@ returns-in-Ok-clause-opens g c =
             (g.P.Power.asked c.open_gate.new.power) slots) place gate,
         state-admitted seen g.B.Block.seen c.args.self.now c.admit.new.self c.args.request.now
             c.grant-grant.result c.in-Ok.live c.admit.ensures.view
-        ∙ ap (λ (grant : ℕ). with_admitted c.args.request.now grant (held_of seen c.in-Ok.live) old)
+            ∙ ap (λ (grant : ℕ). with_admitted c.args.request.now grant (held_of seen c.in-Ok.live) old)
             c.grant-grant.ensures
-        ∙ ap (λ (p : ℕ). with_admitted c.args.request.now
+            ∙ ap (λ (p : ℕ). with_admitted c.args.request.now
             (grant_of (words_of (seen (of_staged c.args.staged))))
             (record { place = p; slots = slots }) old) (c.in-Ok.ensures.place ∙ place),
       ),
@@ -63,13 +62,12 @@ returns-in-Err-clause-opens g c =
     let old = state_view seen g.B.Block.seen c.args.self.now in
     let slots = seens_of seen c.in-Err.doubt in
     let place : c.count-place.result + 1 ≡ (view_of c.args.self.now.tracker).count + 1 =
-        ap (λ (n : ℕ). n + 1) c.count-place.ensures in
+    ap (λ (n : ℕ). n + 1) c.count-place.ensures in
     let gate = opens-err seen (of_staged c.args.staged) (of_doubt c.in-Err.doubt)
-        (tails_of_staged c.args.staged)
-        (of_doubt c.in-Err.doubt ∷ tails_of_doubt c.in-Err.doubt) c.in-Err.doubt
-        c.in-Err.ensures.set
-        (ap (λ ts. of_doubt c.in-Err.doubt ∷ ts) c.in-Err.ensures.tails) in
-    (
+    (tails_of_staged c.args.staged)
+    (of_doubt c.in-Err.doubt ∷ tails_of_doubt c.in-Err.doubt) c.in-Err.doubt
+    c.in-Err.ensures.set
+    (ap (λ ts. of_doubt c.in-Err.doubt ∷ ts) c.in-Err.ensures.tails) in (
       slots,
       (
         subst (λ (p : ℕ). OpensGate g.R.Region.obeys_power p (Err tt)
@@ -78,7 +76,7 @@ returns-in-Err-clause-opens g c =
             (g.P.Power.asked c.open_gate.new.power) slots) place gate,
         state-doubted seen g.B.Block.seen c.args.self.now c.doubt.new.self c.args.request.now
             c.grant-grant.result c.in-Err.doubt c.doubt.ensures.view
-        ∙ ap (λ (grant : ℕ). with_doubted c.args.request.now grant slots old)
+            ∙ ap (λ (grant : ℕ). with_doubted c.args.request.now grant slots old)
             c.grant-grant.ensures,
       ),
     )

@@ -14,9 +14,12 @@ use Rattle.cfs_inode.proofs.settle.InodeState+R+B.settle.Goals as goal
 pub returns-in_default-clause-settles : goal.returns-in_default-clause-settles
 returns-in_default-clause-settles g c = (
   state-doubt g.R.Region.seen g.B.Block.seen c.args.self.now None c.in_default.ensures.slots,
-  (refl, state-same g.R.Region.seen g.B.Block.seen c.args.self.now c.take_doubt.new.self
-      (c.in_default.ensures.taken
-      ∙ view-settling (view_of c.args.self.now.tracker) c.in_default.ensures.slots)),
+  (
+    refl,
+    state-same g.R.Region.seen g.B.Block.seen c.args.self.now c.take_doubt.new.self
+        (c.in_default.ensures.taken
+        ∙ view-settling (view_of c.args.self.now.tracker) c.in_default.ensures.slots),
+  ),
 )
 
 pub returns-in_default-clause-makes : goal.returns-in_default-clause-makes

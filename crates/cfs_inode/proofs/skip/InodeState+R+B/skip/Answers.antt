@@ -17,8 +17,11 @@ pub returns-in_default-clause-skips : goal.returns-in_default-clause-skips
 returns-in_default-clause-skips g c = (
   state-noop g.R.Region.seen g.B.Block.seen c.args.self.now c.args.place None
       c.in_default.ensures.slots,
-  (refl, state-same g.R.Region.seen g.B.Block.seen c.args.self.now c.take_covered.new.self
-      c.in_default.ensures.unchanged),
+  (
+    refl,
+    state-same g.R.Region.seen g.B.Block.seen c.args.self.now c.take_covered.new.self
+        c.in_default.ensures.unchanged,
+  ),
 )
 
 pub returns-in_default-clause-makes : goal.returns-in_default-clause-makes
@@ -76,8 +79,7 @@ returns-in-Err-clause-skips g c =
     let was = held_of g.R.Region.seen c.in-Some.live in
     let slots = map g.R.Region.seen (regions_of c.in-Err.live) in
     let same : held_of g.R.Region.seen c.in-Err.live ≡ record was { slots = slots } =
-        ap (λ (place : ℕ). record was { place = place; slots = slots }) c.in-Err.ensures.place in
-    (
+    ap (λ (place : ℕ). record was { place = place; slots = slots }) c.in-Err.ensures.place in (
       was,
       slots,
       state-noop g.R.Region.seen g.B.Block.seen c.args.self.now c.args.place
@@ -89,7 +91,7 @@ returns-in-Err-clause-skips g c =
         state-unclosed g.R.Region.seen g.B.Block.seen c.args.self.now c.put_covered.new.self
             (view_of c.take_covered.new.self) c.args.place c.in-Err.live
             c.put_covered.ensures.view c.in-Some.ensures.taken
-        ∙ ap (λ (held : Held). with_noop c.args.place held
+            ∙ ap (λ (held : Held). with_noop c.args.place held
             (state_view g.R.Region.seen g.B.Block.seen c.args.self.now)) same,
       ),
     )
