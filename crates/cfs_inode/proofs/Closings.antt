@@ -1,12 +1,9 @@
 -- A gate is closed.
-use Rattle.std.proofs.Common.{◌≡◌, ◌≤◌, ◌+◌, arith, inl, List, [], ◌∷◌, ap, length, map, refl, ℕ, Bool, Ok, Err, Result}
-use Rattle.cfs_core.specs.declared.inode_core.Core.{Core}
+use Rattle.std.proofs.Common.{◌≡◌, List, ◌∷◌, ap, map, refl, ℕ, Bool, Ok, Err}
 use Rattle.cfs_pmem.specs.declared.trace.Asked.{Asked}
 use Rattle.cfs_pmem.specs.Images.{Seen, WordStep}
-use Rattle.cfs_pmem.specs.Operations.{Does}
 use Rattle.cfs_pmem.specs.WordOps.{SetsWord}
 use Rattle.cfs_medium.specs.SlotEvents.{Answer}
-use Rattle.cfs_inode.specs.View.{Seens}
 use Rattle.cfs_inode.specs.Ends.{Closes}
 use Rattle.cfs_inode.specs.Opening.{OpensGate}
 

@@ -1,15 +1,14 @@
 -- A call behind a call.
-use Rattle.std.proofs.Common.{◌≡◌, ◌∙◌, ◌≤◌, ◌+◌, ◌++◌, ap, inl, inr, List, [], ◌∷◌, length, refl, subst, sym, ℕ}
+use Rattle.std.proofs.Common.{◌≡◌, ◌++◌, inl, inr, List, [], ◌∷◌, refl, subst, sym, ℕ}
 use Rattle.cfs_core.specs.declared.event.Event.{Event}
 use Rattle.cfs_core.specs.declared.inode_core.Core.{Core}
 use Rattle.cfs_core.specs.After.{after}
 use Rattle.cfs_core.specs.Run.{IsRun, after_all}
-use Rattle.cfs_core.specs.Within.{within}
 use Rattle.cfs_pmem.specs.declared.trace.Asked.{Asked}
 use Rattle.cfs_pmem.proofs.AllMomentLemmas.{all_after, all_weaker}
 use Rattle.cfs_medium.specs.Shows.{Recovers}
 use Rattle.cfs_medium.specs.World.{Remains, World}
-use Rattle.cfs_inode.specs.Makes.{AnyBetween, AreEnough, BehindOne, Makes}
+use Rattle.cfs_inode.specs.Makes.{AnyBetween, AreEnough, Makes}
 
 run-both : (core : Core) (first second : List Event) → IsRun core first →
     IsRun (after_all core first) second → IsRun core (first ++ second)

@@ -1,5 +1,5 @@
 -- The gate of an admission.
-use Rattle.std.proofs.Common.{◌≡◌, ◌∙◌, ◌≤◌, ◌<◌, ◌+◌, ◌-◌, ◌++◌, ap, arith, get_or, inl, inr, List, [], ◌∷◌, length, length-append, Option, None, Some, Ok, Err, refl, subst, sym, true, false, not, ℕ, Bool}
+use Rattle.std.proofs.Common.{◌≡◌, ◌∙◌, ◌≤◌, ◌<◌, ◌+◌, ◌-◌, ◌++◌, ap, arith, inl, inr, List, [], ◌∷◌, length, Option, None, Some, Ok, Err, refl, subst, sym, true, false, ℕ, Bool}
 use Rattle.std.specs.Option.{option_or}
 use Rattle.std.proofs.lemmas.Bool.Decides.{nat_tests}
 use Rattle.std.proofs.lemmas.List.{get_or_past}
@@ -10,18 +10,17 @@ use Rattle.cfs_file.specs.Span.{span}
 use Rattle.cfs_core.specs.declared.doubt.Doubt.{Doubt as CoreDoubt}
 use Rattle.cfs_core.specs.declared.event.Event.TheVariants as events
 use Rattle.cfs_core.specs.declared.flag.Flag.{Flag}
-use Rattle.cfs_core.specs.declared.flag.Flag.TheVariants.{Off, Unsure}
+use Rattle.cfs_core.specs.declared.flag.Flag.TheVariants.{Off}
 use Rattle.cfs_core.specs.declared.inode_core.Core.{Core}
 use Rattle.cfs_core.specs.declared.track.Track.{Track}
 use Rattle.cfs_core.specs.Words.{blank, can_be, is_out, track}
-use Rattle.cfs_core.specs.May.{may, span_now}
+use Rattle.cfs_core.specs.May.{span_now}
 use Rattle.cfs_core.specs.After.{after, change_track}
-use Rattle.cfs_core.specs.Medium.{file, placed}
+use Rattle.cfs_core.specs.Medium.{placed}
 use Rattle.cfs_core.proofs.Order.{track_is}
 use Rattle.cfs_job.specs.Views.{JobView}
 use Rattle.cfs_pmem.specs.declared.trace.Asked.{Asked}
-use Rattle.cfs_pmem.specs.Images.{Seen, WordStep, IsImage, words_of}
-use Rattle.cfs_pmem.specs.Objects.{IsEachImage}
+use Rattle.cfs_pmem.specs.Images.{Seen, WordStep, words_of}
 use Rattle.cfs_pmem.specs.WordOps.{SetsWord}
 use Rattle.cfs_pmem.proofs.AllMomentLemmas.{all_after, all_weaker}
 use Rattle.cfs_medium.specs.Shows.{Recovers, Shows, holding, is_gated}
@@ -34,16 +33,16 @@ use Rattle.cfs_medium.proofs.Worlds.{at_place}
 use Rattle.cfs_tracker.specs.declared.in_doubt.InDoubt.{InDoubt}
 use Rattle.cfs_tracker.specs.declared.pending.Pending.{Pending}
 use Rattle.cfs_tracker.specs.Admit.{MayAdmit, admitted, doubted, pending}
-use Rattle.cfs_tracker.specs.Follows.{DoubtStands, Follows}
-use Rattle.cfs_tracker.specs.View.{TrackerView, entry_at, is_at}
+use Rattle.cfs_tracker.specs.Follows.{DoubtStands}
+use Rattle.cfs_tracker.specs.View.{entry_at, is_at}
 use Rattle.cfs_tracker.proofs.Admissions.{follows-admitted, follows-doubted}
 use Rattle.cfs_tracker.proofs.Pushing.{none-past, track-beside, tracks-count}
-use Rattle.cfs_inode.specs.Makes.{AnyBetween, CallMakes}
+use Rattle.cfs_inode.specs.Makes.{AnyBetween}
 use Rattle.cfs_inode.specs.Opening.{AdmitMakes, IsNext, OpensGate, next_place, with_admitted, with_doubted}
 use Rattle.cfs_inode.specs.Stands.{Stands, Together, slots_in}
 use Rattle.cfs_inode.specs.View.{Held, Seens, StateView}
 use Rattle.cfs_inode.proofs.Goods.{good}
-use Rattle.cfs_inode.proofs.Replacing.{DoubtGoes, Replaces, replaced}
+use Rattle.cfs_inode.proofs.Replacing.{DoubtGoes, replaced}
 use Rattle.cfs_inode.proofs.Replacing.DoubtGoes.{comes}
 
 -- ---- the next place

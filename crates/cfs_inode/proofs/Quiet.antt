@@ -1,7 +1,6 @@
 -- Calls that ask for no step of a device.
-use Rattle.std.proofs.Common.{◌≡◌, ◌∙◌, ◌≤◌, ◌<◌, ◌+◌, ap, arith, inl, inr, List, [], ◌∷◌, length, None, Some, refl, subst, sym, true, false, ℕ}
+use Rattle.std.proofs.Common.{◌≡◌, ◌∙◌, ◌≤◌, ◌+◌, ap, arith, inr, List, [], ◌∷◌, length, None, refl, sym, true, false, ℕ}
 use Rattle.std.specs.Prelude.{is_some}
-use Rattle.cfs_file.specs.declared.entry.Entry.{Entry}
 use Rattle.cfs_file.specs.declared.request.Request.{Request}
 use Rattle.cfs_core.specs.declared.event.Event.{Event}
 use Rattle.cfs_core.specs.declared.event.Event.TheVariants as events
@@ -14,7 +13,6 @@ use Rattle.cfs_core.specs.May.{is_query, may, span_now}
 use Rattle.cfs_core.specs.After.{after, query_track}
 use Rattle.cfs_core.proofs.Marks.{track_beside}
 use Rattle.cfs_job.specs.Views.{JobView}
-use Rattle.cfs_job.specs.Steps.{core_job}
 use Rattle.cfs_pmem.specs.declared.trace.Asked.{Asked}
 use Rattle.cfs_pmem.specs.Images.{Seen}
 use Rattle.cfs_pmem.proofs.AllMomentLemmas.{all_begun}
@@ -28,13 +26,12 @@ use Rattle.cfs_tracker.specs.Follows.{Follows}
 use Rattle.cfs_tracker.specs.Reads.{read_admitted, read_ended}
 use Rattle.cfs_tracker.specs.Cells.{cell_at, held_in}
 use Rattle.cfs_tracker.specs.View.{TrackerView, entry_at, read_at}
-use Rattle.cfs_tracker.proofs.Pushing.{track-beside, tracks-count}
+use Rattle.cfs_tracker.proofs.Pushing.{track-beside}
 use Rattle.cfs_tracker.proofs.Readings.{follows-dropped, follows-read, read-is, some-read}
 use Rattle.cfs_tracker.proofs.Tracks.{in-log}
 use Rattle.cfs_inode.specs.Makes.{AnyBetween, Made}
-use Rattle.cfs_inode.specs.Opening.{IsNext}
 use Rattle.cfs_inode.specs.Reads.{QuietlyMakes, ReadMakes, with_read, without_read}
-use Rattle.cfs_inode.specs.Stands.{JobStands, Stands, Together}
+use Rattle.cfs_inode.specs.Stands.{JobStands, Together}
 use Rattle.cfs_inode.specs.View.{Held, Seens, StateView}
 use Rattle.cfs_inode.proofs.Goods.{good}
 use Rattle.cfs_inode.proofs.Openings.{past-blank}

@@ -1,5 +1,5 @@
 -- What a staged request is ready for.
-use Rattle.std.proofs.Common.{◌≡◌, ◌∙◌, ◌<◌, ap, arith, cond, List, [], ◌∷◌, length, map, not, None, Some, refl, true, false, ℕ, Bool}
+use Rattle.std.proofs.Common.{◌≡◌, ◌∙◌, ap, arith, cond, List, [], ◌∷◌, length, map, not, Some, refl, false, ℕ}
 use Rattle.std.specs.List.{find}
 use Rattle.std.proofs.Math.ListN.{get_or-map}
 use Rattle.cfs_file.specs.declared.request.Request.{Request}
@@ -15,7 +15,7 @@ use Rattle.cfs_medium.specs.Shows.{is_gated}
 use Rattle.cfs_medium.specs.World.{head_words}
 use Rattle.cfs_tracker.specs.declared.cell.Cell.{Cell}
 use Rattle.cfs_tracker.specs.declared.cell.Cell.TheVariants as kinds
-use Rattle.cfs_tracker.specs.Admit.{MayAdmit, first_unmapped, is_mapped}
+use Rattle.cfs_tracker.specs.Admit.{MayAdmit, is_mapped}
 use Rattle.cfs_tracker.specs.Cells.{cell_at}
 use Rattle.cfs_tracker.specs.View.{TrackerView}
 use Rattle.cfs_inode.specs.View.{Seens, StateView, told, told_cell, told_doubt, told_option}

@@ -1,5 +1,5 @@
 -- The slots at a place come to be other ones, and what the state knows of that place.
-use Rattle.std.proofs.Common.{◌≡◌, ◌≢◌, ◌∙◌, ◌==◌, ◌⊎◌, ap, arith, inl, inr, List, [], ◌∷◌, Option, None, Some, refl, subst, sym, true, false, ℕ, Bool}
+use Rattle.std.proofs.Common.{◌≡◌, ◌∙◌, ap, inl, inr, List, [], ◌∷◌, Option, Some, refl, sym, true, false, ℕ}
 use Rattle.cfs_pmem.specs.Images.{Seen}
 use Rattle.cfs_block.specs.BlockImages.{BlockStep}
 use Rattle.cfs_core.specs.declared.inode_core.Core.{Core}
@@ -14,7 +14,6 @@ use Rattle.cfs_medium.specs.Shows.{Shows}
 use Rattle.cfs_medium.specs.World.{World}
 use Rattle.cfs_medium.specs.WorldCalls.{with_slots}
 use Rattle.cfs_medium.proofs.Worlds.{at_other, at_place}
-use Rattle.cfs_tracker.specs.declared.cell.Cell.{Cell}
 use Rattle.cfs_tracker.specs.declared.in_doubt.InDoubt.{InDoubt}
 use Rattle.cfs_tracker.specs.declared.pending.Pending.{Pending}
 use Rattle.cfs_tracker.specs.Cells.{cell_at, held_in}

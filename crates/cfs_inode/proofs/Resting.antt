@@ -1,5 +1,5 @@
 -- A call that does nothing.
-use Rattle.std.proofs.Common.{◌≡◌, List, [], ℕ}
+use Rattle.std.proofs.Common.{List, []}
 use Rattle.cfs_pmem.specs.declared.trace.Asked.{Asked}
 use Rattle.cfs_pmem.proofs.AllMomentLemmas.{all_begun}
 use Rattle.cfs_inode.specs.Makes.{CallMakes}

@@ -1,19 +1,17 @@
 -- The request in doubt is closed.
-use Rattle.std.proofs.Common.{◌≡◌, ◌∙◌, ◌≤◌, ◌+◌, ap, arith, inl, inr, List, [], ◌∷◌, length, Option, None, Some, Ok, Err, refl, subst, sym, true, false, ℕ, Bool}
+use Rattle.std.proofs.Common.{◌≡◌, ◌∙◌, ◌≤◌, ◌+◌, ap, arith, inl, List, [], ◌∷◌, length, Option, None, Some, Ok, Err, refl, sym, true, false, ℕ, Bool}
 use Rattle.std.specs.Prelude.{is_some}
 use Rattle.cfs_core.specs.declared.doubt.Doubt.{Doubt as CoreDoubt}
 use Rattle.cfs_core.specs.declared.event.Event.TheVariants as events
-use Rattle.cfs_core.specs.declared.flag.Flag.TheVariants.{Off, Unsure}
+use Rattle.cfs_core.specs.declared.flag.Flag.TheVariants.{Off}
 use Rattle.cfs_core.specs.declared.inode_core.Core.{Core}
 use Rattle.cfs_core.specs.declared.state.State.{State}
 use Rattle.cfs_core.specs.declared.state.State.TheVariants as states
 use Rattle.cfs_core.specs.Words.{is_live, is_out, track}
 use Rattle.cfs_core.specs.After.{after}
-use Rattle.cfs_core_laws.specs.InStep.{IsInStep}
-use Rattle.cfs_job.specs.Views.{JobView}
 use Rattle.cfs_pmem.specs.declared.trace.Asked.{Asked}
 use Rattle.cfs_pmem.proofs.AllMomentLemmas.{all_weaker}
-use Rattle.cfs_medium.specs.Shows.{Recovers, Shows}
+use Rattle.cfs_medium.specs.Shows.{Recovers}
 use Rattle.cfs_medium.specs.SlotEvents.{Answer, Leads}
 use Rattle.cfs_medium.specs.World.{Remains, World}
 use Rattle.cfs_medium.specs.WorldCalls.{with_slots as with_slots_at}
@@ -27,10 +25,10 @@ use Rattle.cfs_tracker.proofs.Putting.{track-of}
 use Rattle.cfs_tracker.proofs.Settles.{follows-settled}
 use Rattle.cfs_inode.specs.Ends.{Closes, slots_in_doubt, with_doubt, without_doubt}
 use Rattle.cfs_inode.specs.Makes.{AnyBetween, CallMakes}
-use Rattle.cfs_inode.specs.Stands.{Stands, Together}
+use Rattle.cfs_inode.specs.Stands.{Stands}
 use Rattle.cfs_inode.specs.View.{Held, Seens, StateView}
 use Rattle.cfs_inode.proofs.Goods.{good, steps-in}
-use Rattle.cfs_inode.proofs.Replacing.{DoubtGoes, Replaces, replaced}
+use Rattle.cfs_inode.proofs.Replacing.{DoubtGoes, replaced}
 use Rattle.cfs_inode.proofs.Replacing.DoubtGoes.{comes}
 
 -- ---- what is known of it

@@ -1,5 +1,5 @@
 -- A no-op is closed.
-use Rattle.std.proofs.Common.{◌≡◌, ◌∙◌, ◌≤◌, ◌+◌, ap, arith, inl, inr, List, [], ◌∷◌, length, Option, None, Some, Ok, Err, refl, subst, sym, true, false, ℕ, Bool}
+use Rattle.std.proofs.Common.{◌≡◌, ◌∙◌, ◌≤◌, ◌+◌, ap, arith, inl, List, [], ◌∷◌, length, Option, None, Some, Ok, Err, refl, subst, sym, true, false, ℕ, Bool}
 use Rattle.std.specs.Prelude.{option_map}
 use Rattle.cfs_core.specs.declared.doubt.Doubt.{Doubt as CoreDoubt}
 use Rattle.cfs_core.specs.declared.event.Event.TheVariants as events
@@ -11,11 +11,8 @@ use Rattle.cfs_core.specs.Words.{is_out, track}
 use Rattle.cfs_core.specs.May.{may}
 use Rattle.cfs_core.specs.After.{after, retired}
 use Rattle.cfs_core.proofs.Marks.{track_beside}
-use Rattle.cfs_job.specs.Views.{JobView}
 use Rattle.cfs_pmem.specs.declared.trace.Asked.{Asked}
-use Rattle.cfs_pmem.specs.Images.{Seen}
 use Rattle.cfs_pmem.proofs.AllMomentLemmas.{all_weaker}
-use Rattle.cfs_block.specs.BlockImages.{BlockStep}
 use Rattle.cfs_medium.specs.Shows.{Recovers, Shows}
 use Rattle.cfs_medium.specs.SlotEvents.{Answer, IsBesideDoubt, Leads}
 use Rattle.cfs_medium.specs.World.{Remains, World}
@@ -25,7 +22,7 @@ use Rattle.cfs_tracker.specs.declared.doing.Doing.{Doing}
 use Rattle.cfs_tracker.specs.declared.doing.Doing.TheVariants as doings
 use Rattle.cfs_tracker.specs.declared.in_doubt.InDoubt.{InDoubt}
 use Rattle.cfs_tracker.specs.declared.pending.Pending.{Pending}
-use Rattle.cfs_tracker.specs.Follows.{DoubtStands, Follows, IsDoing, IsTrack, gate_for, is_dead}
+use Rattle.cfs_tracker.specs.Follows.{DoubtStands, Follows, IsDoing, gate_for, is_dead}
 use Rattle.cfs_tracker.specs.Skip.{closing, covered_in, covered_slots, is_closing, skipped, unclosed}
 use Rattle.cfs_tracker.specs.View.{TrackerView, doing, entry_at, with_entry}
 use Rattle.cfs_tracker.proofs.Entries.{at-with, at-without, here-with, here-without}
@@ -34,11 +31,11 @@ use Rattle.cfs_tracker.proofs.Skips.{follows-closing, follows-skipped}
 use Rattle.cfs_tracker.proofs.Tracks.{in-log}
 use Rattle.cfs_inode.specs.Ends.{Closes, noop_at, with_noop, without_noop}
 use Rattle.cfs_inode.specs.Makes.{AnyBetween, CallMakes}
-use Rattle.cfs_inode.specs.Stands.{Stands, Together, slots_in}
+use Rattle.cfs_inode.specs.Stands.{Stands, slots_in}
 use Rattle.cfs_inode.specs.View.{Held, Seens, StateView}
 use Rattle.cfs_inode.proofs.Goods.{good}
-use Rattle.cfs_inode.proofs.Replacing.{DoubtGoes, Replaces, replaced}
-use Rattle.cfs_inode.proofs.Replacing.DoubtGoes.{comes, stays}
+use Rattle.cfs_inode.proofs.Replacing.{DoubtGoes, replaced}
+use Rattle.cfs_inode.proofs.Replacing.DoubtGoes.{stays}
 use Rattle.cfs_inode.proofs.Tells.{without-with}
 
 -- ---- what is known of a no-op

@@ -1,5 +1,5 @@
 -- What a state is seen as when its tracker has changed.
-use Rattle.std.proofs.Common.{◌≡◌, ◌∙◌, ap, List, [], ◌∷◌, Option, None, Some, map, refl, sym, true, ℕ}
+use Rattle.std.proofs.Common.{◌≡◌, ◌∙◌, ap, [], ◌∷◌, Option, None, Some, refl, sym, true, ℕ}
 use Rattle.std.specs.Prelude.{is_some}
 use Rattle.std.proofs.lemmas.List.{map-append}
 use Rattle.cfs_file.specs.declared.request.Request.{Request}
@@ -18,7 +18,7 @@ use Rattle.cfs_inode.specs.declared.state.State.{State}
 use Rattle.cfs_inode.specs.Ends.{noop_at, slots_in_doubt, with_doubt, with_noop, without_doubt, without_noop}
 use Rattle.cfs_inode.specs.Opening.{with_admitted, with_doubted}
 use Rattle.cfs_inode.specs.Reads.{with_read, without_read}
-use Rattle.cfs_inode.specs.View.{Held, StateView, held_of, seens_of, state_view, told, told_doubt, told_entry, told_option}
+use Rattle.cfs_inode.specs.View.{held_of, seens_of, state_view, told, told_doubt, told_entry, told_option}
 use Rattle.cfs_inode.proofs.Tells.{covered-told, told-skipped, told-unclosed}
 
 -- the state with another tracker, seen by what that tracker is seen as

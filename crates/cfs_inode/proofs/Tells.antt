@@ -1,14 +1,12 @@
 -- A tracker whose slots and blocks are told as something else.
-use Rattle.std.proofs.Common.{◌≡◌, ◌∙◌, ap, arith, cond, ◌==◌, ◌++◌, inl, inr, filter, List, [], ◌∷◌, map, not, Option, None, Some, refl, sym, true, false, ℕ, Bool}
+use Rattle.std.proofs.Common.{◌≡◌, ◌∙◌, ap, inl, inr, List, [], ◌∷◌, map, Option, None, Some, refl, ℕ}
 use Rattle.std.proofs.lemmas.Bool.{cases_Bool}
 use Rattle.cfs_tracker.specs.declared.doing.Doing.{Doing}
 use Rattle.cfs_tracker.specs.declared.doing.Doing.TheVariants as doings
-use Rattle.cfs_tracker.specs.declared.in_doubt.InDoubt.{InDoubt}
 use Rattle.cfs_tracker.specs.declared.pending.Pending.{Pending}
-use Rattle.cfs_tracker.specs.Settle.{doubt_slots, settled, settling, unsettled, with_slots}
 use Rattle.cfs_tracker.specs.Skip.{closing, covered_in, covered_slots, skipped, unclosed}
 use Rattle.cfs_tracker.specs.View.{TrackerView, doing, entry_at, is_at, with_entry, without}
-use Rattle.cfs_inode.specs.View.{told, told_doing, told_doubt, told_entry, told_option}
+use Rattle.cfs_inode.specs.View.{told, told_doing, told_entry, told_option}
 
 -- ---- entries
 

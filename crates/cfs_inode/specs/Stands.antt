@@ -1,5 +1,5 @@
 -- What the state of an inode, and jobs that are out, have to do with a core and its devices.
-use Rattle.std.specs.Prelude.{ℕ, ◌≡◌, ◌≢◌, ◌<◌, Bool, true, false, Option, Some, None, List, [], ◌∷◌, is_some}
+use Rattle.std.specs.Prelude.{ℕ, ◌≡◌, ◌≢◌, ◌<◌, Option, Some, None, List, [], ◌∷◌}
 use Rattle.cfs_file.specs.declared.sizes.TheConstants.{FILE_BLOCKS}
 use Rattle.cfs_pmem.specs.Images.{Seen}
 use Rattle.cfs_block.specs.BlockImages.{BlockStep}
@@ -10,15 +10,13 @@ use Rattle.cfs_job.specs.Steps.{core_job}
 use Rattle.cfs_job.specs.Views.{JobView, TileView}
 use Rattle.cfs_medium.specs.Shows.{Shows}
 use Rattle.cfs_medium.specs.World.{World}
-use Rattle.cfs_tracker.specs.declared.cell.Cell.{Cell}
-use Rattle.cfs_tracker.specs.declared.cell.Cell.TheVariants as kinds
 use Rattle.cfs_tracker.specs.declared.doing.Doing.{Doing}
 use Rattle.cfs_tracker.specs.declared.doing.Doing.TheVariants as doings
 use Rattle.cfs_tracker.specs.declared.in_doubt.InDoubt.{InDoubt}
 use Rattle.cfs_tracker.specs.declared.pending.Pending.{Pending}
 use Rattle.cfs_tracker.specs.Cells.{cell_at, held_in}
 use Rattle.cfs_tracker.specs.Follows.{Follows}
-use Rattle.cfs_tracker.specs.View.{TrackerView, entry_at}
+use Rattle.cfs_tracker.specs.View.{entry_at}
 use Rattle.cfs_inode.specs.View.{Held, Seens, StateView}
 
 -- ---- the state

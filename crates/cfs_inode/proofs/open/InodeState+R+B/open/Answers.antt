@@ -1,11 +1,11 @@
-use Rattle.std.proofs.Common.{◌≡◌, ◌∙◌, ◌+◌, ap, ℕ, List, [], ◌∷◌, map, false, Err, Ok, refl, subst, sym}
+use Rattle.std.proofs.Common.{◌≡◌, ◌∙◌, ◌+◌, ap, ℕ, ◌∷◌, map, false, Err, Ok, subst, sym}
 use Rattle.cfs_slot.specs.Reads.{regions_of}
-use Rattle.cfs_slot.specs.Regions.{of_doubt, of_live, of_staged, tails_of_doubt, tails_of_live, tails_of_staged}
+use Rattle.cfs_slot.specs.Regions.{of_doubt, of_live, of_staged, tails_of_doubt, tails_of_staged}
 use Rattle.cfs_slot.specs.Words.{grant_of}
 use Rattle.cfs_pmem.specs.Images.{words_of}
 use Rattle.cfs_tracker.specs.View.{view_of}
 use Rattle.cfs_inode.specs.Opening.{AdmitMakes, OpensGate, with_admitted, with_doubted}
-use Rattle.cfs_inode.specs.View.{Held, StateView, held_of, seens_of, state_view}
+use Rattle.cfs_inode.specs.View.{StateView, held_of, seens_of, state_view}
 use Rattle.cfs_inode.proofs.Closings.{opens-err, opens-ok}
 use Rattle.cfs_inode.proofs.Openings.{open-failed, open-kept}
 use Rattle.cfs_inode.proofs.Readies.{ready, told-may}

@@ -1,4 +1,4 @@
-use Rattle.std.proofs.Common.{List, [], ◌∷◌, None, subst, sym}
+use Rattle.std.proofs.Common.{[], ◌∷◌, None, subst, sym}
 use Rattle.cfs_core.specs.declared.event.Event.TheVariants as events
 use Rattle.cfs_inode.specs.Reads.{QuietlyMakes}
 use Rattle.cfs_inode.specs.View.{StateView, state_view}

@@ -1,4 +1,4 @@
-use Rattle.std.proofs.Common.{◌≡◌, ◌∙◌, ap, ℕ, List, [], ◌∷◌, map, None, Some, refl, subst, sym, true}
+use Rattle.std.proofs.Common.{◌≡◌, ◌∙◌, [], ◌∷◌, map, None, Some, refl, subst, sym, true}
 use Rattle.std.specs.Prelude.{is_some}
 use Rattle.cfs_core.specs.declared.event.Event.TheVariants as events
 use Rattle.cfs_slot.specs.Regions.{head_of, of_doubt, of_slots, tails_of_doubt}

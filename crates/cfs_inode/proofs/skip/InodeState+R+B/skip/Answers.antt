@@ -1,11 +1,11 @@
-use Rattle.std.proofs.Common.{◌≡◌, ◌∙◌, ap, ℕ, List, [], ◌∷◌, map, None, Some, refl, subst, sym, true}
+use Rattle.std.proofs.Common.{◌≡◌, ◌∙◌, ap, ℕ, [], ◌∷◌, map, None, Some, refl, subst, sym, true}
 use Rattle.cfs_core.specs.declared.event.Event.TheVariants as events
 use Rattle.cfs_slot.specs.Reads.{regions_of}
-use Rattle.cfs_slot.specs.Regions.{after_close, head_of, of_live, of_slots, tails_of_live}
+use Rattle.cfs_slot.specs.Regions.{head_of, of_live, of_slots, tails_of_live}
 use Rattle.cfs_tracker.specs.Skip.{is_closing}
 use Rattle.cfs_tracker.specs.View.{TrackerView, entry_at, view_of}
 use Rattle.cfs_inode.specs.View.{Held, StateView, held_of, state_view}
-use Rattle.cfs_inode.specs.Ends.{with_noop, without_noop}
+use Rattle.cfs_inode.specs.Ends.{with_noop}
 use Rattle.cfs_inode.specs.Makes.{CallMakes}
 use Rattle.cfs_inode.proofs.Closings.{closes-err, closes-ok}
 use Rattle.cfs_inode.proofs.Resting.{rests}
