@@ -1,5 +1,5 @@
 -- A change takes a place, or is in doubt.
-use Rattle.std.proofs.Common.{◌≡◌, ◌∙◌, ap, arith, ◌+◌, ◌++◌, ◌-◌, ◌<◌, ◌≤◌, ◌==◌, inl, inr, length, List, [], ◌∷◌, not, max, get_or, Option, None, Some, refl, sym, true, false, ℕ, Bool, subst}
+use Rattle.std.proofs.Common.{◌≡◌, ◌∙◌, ap, arith, ◌+◌, ◌++◌, ◌<◌, ◌≤◌, ◌==◌, inl, inr, length, List, [], ◌∷◌, not, get_or, Option, None, Some, refl, sym, true, false, ℕ, Bool}
 use Rattle.std.specs.Prelude.{is_none, nat_le}
 use Rattle.std.specs.List.{find, list_all}
 use Rattle.std.specs.Option.{option_or}
@@ -10,7 +10,7 @@ use Rattle.std.proofs.lemmas.List.Folds.{find-append}
 use Rattle.cfs_file.specs.declared.entry.Entry.{Entry}
 use Rattle.cfs_file.specs.declared.request.Request.{Request}
 use Rattle.cfs_file.specs.declared.request.Request.TheVariants as requests
-use Rattle.cfs_file.specs.declared.sizes.TheConstants.{FILE_BLOCKS, LONGEST_FILE}
+use Rattle.cfs_file.specs.declared.sizes.TheConstants.{LONGEST_FILE}
 use Rattle.cfs_file.specs.declared.span.Span.{Span}
 use Rattle.cfs_file.specs.File.{effect}
 use Rattle.cfs_file.specs.Span.{span}
@@ -23,7 +23,7 @@ use Rattle.cfs_core.specs.declared.inode_core.Core.{Core}
 use Rattle.cfs_core.specs.declared.state.State.TheVariants as states
 use Rattle.cfs_core.specs.Words.{blocks_needed, has_block, is_on}
 use Rattle.cfs_core.specs.Medium.{file}
-use Rattle.cfs_core.specs.May.{fits, is_change, is_mapped as are_mapped, is_sync_request, may, span_now}
+use Rattle.cfs_core.specs.May.{is_mapped as are_mapped, may, span_now}
 use Rattle.cfs_core.specs.After.{after, change_track}
 use Rattle.cfs_core.proofs.Sizes.{length-put}
 use Rattle.cfs_core_laws.specs.Reached.IsReached.{comes}
@@ -31,11 +31,10 @@ use Rattle.cfs_tracker.specs.declared.cell.Cell.{Cell}
 use Rattle.cfs_tracker.specs.declared.cell.Cell.TheVariants as kinds
 use Rattle.cfs_tracker.specs.declared.in_doubt.InDoubt.{InDoubt}
 use Rattle.cfs_tracker.specs.declared.pending.Pending.{Pending}
-use Rattle.cfs_tracker.specs.declared.reading.Reading.{Reading}
-use Rattle.cfs_tracker.specs.View.{TrackerView, entry_at, entry_place, is_at, read_at}
+use Rattle.cfs_tracker.specs.View.{TrackerView, entry_at, entry_place, is_at}
 use Rattle.cfs_tracker.specs.Admit.{MayAdmit, admitted, doubted, first_unmapped, is_mapped, long_after, pending}
 use Rattle.cfs_tracker.specs.Cells.{cell_at}
-use Rattle.cfs_tracker.specs.Follows.{CellStands, DoubtStands, Follows, flag_if}
+use Rattle.cfs_tracker.specs.Follows.{CellStands, DoubtStands, Follows}
 use Rattle.cfs_tracker.proofs.Entries.{rise-push}
 use Rattle.cfs_tracker.proofs.Putting.{stands-by}
 use Rattle.cfs_tracker.proofs.Pushing.{follows-push, none-past, within-count}

@@ -1,11 +1,10 @@
 -- A tracker goes on to follow its core where one block of the file changes its tag.
-use Rattle.std.proofs.Common.{◌≡◌, ◌∙◌, ap, arith, ◌<◌, get_or, inl, inr, length, List, refl, set, sym, true, false, ℕ, Bool, subst, get_or-set_other, length-set}
+use Rattle.std.proofs.Common.{◌≡◌, ◌∙◌, arith, ◌<◌, get_or, inl, inr, length, List, refl, set, sym, true, false, ℕ, Bool, subst, get_or-set_other, length-set}
 use Rattle.std.proofs.lemmas.Grind.{get_or-set_at}
 use Rattle.cfs_file.specs.declared.sizes.TheConstants.{FILE_BLOCKS}
 use Rattle.cfs_core.specs.declared.flag.Flag.{Flag}
 use Rattle.cfs_core.specs.declared.flag.Flag.TheVariants as flags
 use Rattle.cfs_core.specs.declared.inode_core.Core.{Core}
-use Rattle.cfs_core.specs.Words.{has_block, track}
 use Rattle.cfs_core.proofs.Order.{same_or_not}
 use Rattle.cfs_core_laws.specs.Reached.{IsReached}
 use Rattle.cfs_tracker.specs.declared.cell.Cell.{Cell}
@@ -53,7 +52,8 @@ follows-cell {S} {D} {B} view core block cell tags follows reached less own besi
   many = length-set view.cells block cell ∙ follows.many;
   cells = λ other low. elim (same_or_not other block) [
     | inl same ↦
-        subst (λ (k : ℕ). CellStands (cell_at (set view.cells block cell) k) (get_or tags k flags.Off))
+        subst (λ (k : ℕ). CellStands (cell_at (set view.cells block cell) k) (get_or tags k
+        flags.Off))
         (sym same)
         (subst (λ (c : Cell B). CellStands c (get_or tags block flags.Off))
         (sym (cell-here view.cells block cell (omega (arith, follows.many)))) stands)

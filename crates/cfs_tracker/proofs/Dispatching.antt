@@ -1,7 +1,7 @@
 -- A job takes a change and its next blocks.
-use Rattle.std.proofs.Common.{◌≡◌, ◌∙◌, ap, arith, ◌+◌, ◌-◌, ◌<◌, ◌==◌, ◌&&◌, ◌⊎◌, cond, get_or, inl, inr, length, List, [], ◌∷◌, Option, None, Some, refl, set, sym, true, false, zero, suc, ℕ, Bool, subst, length-set, take}
+use Rattle.std.proofs.Common.{◌≡◌, ◌∙◌, ap, arith, ◌<◌, ◌==◌, ◌&&◌, ◌⊎◌, cond, get_or, inl, inr, length, List, [], ◌∷◌, Option, None, Some, refl, sym, true, false, zero, suc, ℕ, Bool, subst, length-set}
 use Rattle.std.specs.Prelude.{nat_lt, option_map}
-use Rattle.std.specs.List.{find, list_all, list_any, range_with_len}
+use Rattle.std.specs.List.{find, list_all, range_with_len}
 use Rattle.std.proofs.lemmas.Bool.{cases_Bool}
 use Rattle.std.proofs.lemmas.Bool.Decides.{nat_tests}
 use Rattle.cfs_file.specs.declared.sizes.TheConstants.{FILE_BLOCKS}
@@ -17,7 +17,7 @@ use Rattle.cfs_core.specs.declared.state.State.TheVariants as states
 use Rattle.cfs_core.specs.declared.track.Track.{Track}
 use Rattle.cfs_core.specs.Words.{block_span, has_block, is_lease, is_live, is_on, is_unserved, is_waiting, track}
 use Rattle.cfs_core.specs.Jobs.{is_above, is_taken, is_wanted, job_from, lease_of, next_block, next_job}
-use Rattle.cfs_core.specs.May.{has_live_in, has_read_in, may, meets_live, meets_read}
+use Rattle.cfs_core.specs.May.{may, meets_live, meets_read}
 use Rattle.cfs_core.specs.After.{after}
 use Rattle.cfs_core.proofs.Legal.{both}
 use Rattle.cfs_core.proofs.Order.{same_or_not}
@@ -28,8 +28,7 @@ use Rattle.cfs_tracker.specs.declared.doing.Doing.{Doing}
 use Rattle.cfs_tracker.specs.declared.doing.Doing.TheVariants as doings
 use Rattle.cfs_tracker.specs.declared.pending.Pending.{Pending}
 use Rattle.cfs_tracker.specs.declared.reading.Reading.{Reading}
-use Rattle.cfs_tracker.specs.declared.step.Step.{Step}
-use Rattle.cfs_tracker.specs.declared.step.Step.TheVariants.{NotWaiting, NotYet, Takes}
+use Rattle.cfs_tracker.specs.declared.step.Step.TheVariants.{NotWaiting, Takes}
 use Rattle.cfs_tracker.specs.View.{TrackerView, doing, entry_at, is_read_at, read_at, with_entry}
 use Rattle.cfs_tracker.specs.Admit.{is_mapped}
 use Rattle.cfs_tracker.specs.Cells.{cell_at}
@@ -208,7 +207,7 @@ blocks-of view place first second is still = record {
     two block own =
         (second-mapped view.cells is.entry.span first block (is.second_is ∙ own)).3
 
-kept-by : {B : Type 0} (cells : List (Cell B)) (held : Option ℕ) →
+pub kept-by : {B : Type 0} (cells : List (Cell B)) (held : Option ℕ) →
     ((block : ℕ) → held ≡ Some block → is_home (cell_at cells block) ≡ true) →
     is_kept cells held ≡ true
 kept-by cells None kept = refl
@@ -535,13 +534,15 @@ follows-dispatched {S} {D} {B} view core place first second is are follows =
     let inside = in-log is_waiting refl core.tracks place waits in
     let now : Doing S = doings.Out first second in
     let unread : read_at view.reads place ≡ None = read-of view core place entry follows is.there in
-    let there : entry_at (with_entry place (doing now) view.entries) place ≡ Some (doing now entry) =
+    let there : entry_at (with_entry place (doing now) view.entries) place ≡ Some (doing now entry)
+    =
     here-with view.entries place (doing now) (λ e. refl) ∙ ap (option_map (doing now)) is.there in
     let reached = comes core (events.Dispatch place) follows.reached may_be in (
       may_be,
       follows-put view core place (record t { state = states.Out (next_job core.tags t) })
           (with_entry place (doing now) view.entries) view.reads
-          (lend place second (lend place first view.cells)) core.size core.sizes view.stored view.is_sure
+          (lend place second (lend place first view.cells)) core.size core.sizes view.stored
+          view.is_sure
           follows reached follows.size follows.sure
           (record {
             some = inside.0;
@@ -563,7 +564,8 @@ follows-dispatched {S} {D} {B} view core place first second is are follows =
                   ∙ ap (λ (dead : Bool). gate_for dead entry.applied)
                   (waits-alive entry.doing is.waits);
               idle = λ applied block.
-                  ap (λ (j : Job). has_block (states.Out j) block) (job-is view core entry t follows own)
+                  ap (λ (j : Job). has_block (states.Out j) block) (job-is view core entry t
+                  follows own)
                   ∙ idle-job view.cells entry block applied;
             });
             unread = unread;

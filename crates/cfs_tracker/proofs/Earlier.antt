@@ -1,18 +1,14 @@
 -- What stands before a place, and which blocks are out.
-use Rattle.std.proofs.Common.{◌≡◌, ◌∙◌, ap, arith, ◌+◌, ◌-◌, ◌<◌, ◌≤◌, ◌&&◌, ◌||◌, get_or, inl, inr, length, List, [], ◌∷◌, Option, None, Some, refl, suc, sym, true, false, ◌==◌, ℕ, Bool, subst, take, drop, ◌⊎◌, not, cond}
-use Rattle.std.specs.Prelude.{nat_lt, nat_le}
-use Rattle.std.specs.List.{find, list_any, range_with_len}
-use Rattle.std.proofs.lemmas.Bool.{cases_Bool, cases_lt}
+use Rattle.std.proofs.Common.{◌≡◌, ◌∙◌, ap, arith, ◌+◌, ◌-◌, ◌<◌, ◌≤◌, ◌||◌, get_or, inl, inr, length, List, [], ◌∷◌, Option, None, Some, refl, suc, sym, true, false, ◌==◌, ℕ, Bool, subst, take, drop, ◌⊎◌}
+use Rattle.std.specs.List.{find, list_any}
+use Rattle.std.proofs.lemmas.Bool.{cases_Bool}
 use Rattle.std.proofs.lemmas.Bool.Decides.{nat_tests}
 use Rattle.std.proofs.lemmas.List.{get_or-take, length-take, get_or-drop, length-drop}
 use Rattle.std.proofs.lemmas.List.FromFn.{get_or-range_with_len, length-range_with_len}
 use Rattle.cfs_file.specs.declared.span.Span.{Span}
-use Rattle.cfs_file.specs.Span.{meets}
 use Rattle.cfs_core.specs.declared.inode_core.Core.{Core}
 use Rattle.cfs_core.specs.declared.state.Lease.{Lease}
-use Rattle.cfs_core.specs.declared.state.Job.{Job}
 use Rattle.cfs_core.specs.declared.state.State.{State}
-use Rattle.cfs_core.specs.declared.state.State.TheVariants as states
 use Rattle.cfs_core.specs.declared.track.Track.{Track}
 use Rattle.cfs_core.specs.Words.{blank, blocks_needed, end_needed, first_needed, has_block, is_lease, is_lent, is_live, is_unserved, track}
 use Rattle.cfs_core.proofs.Order.{track_is}

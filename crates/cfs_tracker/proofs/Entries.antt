@@ -1,13 +1,12 @@
 -- Entries by their places.
-use Rattle.std.proofs.Common.{◌≡◌, ◌∙◌, ◌<◌, ◌≤◌, ◌+◌, ◌++◌, ◌==◌, ◌⊎◌, ap, arith, cond, false, filter, get_or, inl, inr, length, List, [], ◌∷◌, not, Option, None, Some, refl, set, suc, sym, true, zero, ℕ, Bool}
+use Rattle.std.proofs.Common.{◌≡◌, ◌∙◌, ◌<◌, ◌≤◌, ◌+◌, ◌++◌, ◌==◌, ap, arith, cond, false, filter, get_or, inl, inr, length, List, [], ◌∷◌, not, None, Some, refl, set, suc, sym, true, zero, ℕ, Bool}
 use Rattle.std.specs.Prelude.{option_map}
 use Rattle.std.specs.List.{find, list_any, position, position_or_len, slice_get}
 use Rattle.std.proofs.lemmas.Bool.{cases_Bool, cases_lt}
 use Rattle.std.proofs.lemmas.Bool.Decides.{nat_tests}
 use Rattle.cfs_core.proofs.Legal.{neither}
-use Rattle.cfs_tracker.specs.declared.doing.Doing.{Doing}
 use Rattle.cfs_tracker.specs.declared.pending.Pending.{Pending}
-use Rattle.cfs_tracker.specs.View.{doing, entry_at, entry_place, is_at, with_entry, without}
+use Rattle.cfs_tracker.specs.View.{entry_at, entry_place, is_at, with_entry, without}
 use Rattle.cfs_tracker.specs.Follows.{Rise}
 
 -- ---- where it stands
@@ -107,7 +106,8 @@ at-with (x ∷ xs) place other change keeps apart = elim (cases_Bool (is_at plac
       let now : is_at other (change x) ≡ false = ap (λ n. n == other) (keeps x) ∙ was in
       rw (own, was, now) refl
   | inr beside ↦
-      rw beside (ap (λ o. cond (is_at other x) (Some x) o) (at-with xs place other change keeps apart))
+      rw beside (ap (λ o. cond (is_at other x) (Some x) o) (at-with xs place other change keeps
+      apart))
 ]
 
 pub here-with : {S : Type 0} (es : List (Pending S)) (place : ℕ)
@@ -251,6 +251,21 @@ above-all at low (x ∷ xs) y zero rise there =
     omega (arith, rise.0)
 above-all at low (x ∷ xs) y (suc k) rise there =
     omega (arith, rise.0, above-all at (at x) xs y k rise.1 there)
+
+-- what is found is above where the list begins
+pub above-find : {X : Type 0} (at : X → ℕ) (test : X → Bool) (low : ℕ) (xs : List X) (y : X) →
+    Rise at low xs → find test xs ≡ Some y → low < at y
+above-find at test low [] y rise is = cc
+above-find at test low (x ∷ xs) y rise is = elim (cases_Bool (test x)) [
+  | inl own ↦
+      let it : find test (x ∷ xs) ≡ Some x = rw own refl in
+      let same : x ≡ y = (let somes : Some x ≡ Some y = sym it ∙ is in cc) in
+      let e : at x ≡ at y = ap at same in
+      omega (arith, rise.0)
+  | inr other ↦
+      let rest : find test (x ∷ xs) ≡ find test xs = rw other refl in
+      omega (arith, rise.0, above-find at test (at x) xs y rise.1 (sym rest ∙ is))
+]
 
 -- what is found first of a rising list has the least place of all that pass
 pub least : {X : Type 0} (at : X → ℕ) (test : X → Bool) (low : ℕ) (xs : List X) (x y : X)

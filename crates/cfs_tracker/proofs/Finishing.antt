@@ -1,12 +1,10 @@
 -- A job ends.
-use Rattle.std.proofs.Common.{◌≡◌, ◌∙◌, ap, arith, ◌-◌, ◌<◌, ◌==◌, ◌&&◌, ◌||◌, ◌++◌, ◌⊎◌, get_or, inl, inr, length, List, [], ◌∷◌, not, Option, None, Some, refl, set, sym, true, false, ℕ, Bool, subst, length-set}
-use Rattle.std.specs.Prelude.{is_none, nat_lt, option_map}
+use Rattle.std.proofs.Common.{◌≡◌, ◌∙◌, ap, arith, ◌<◌, ◌&&◌, ◌||◌, ◌++◌, ◌⊎◌, get_or, inl, inr, length, List, [], ◌∷◌, Option, None, Some, refl, set, sym, true, false, ℕ, Bool, subst, length-set}
+use Rattle.std.specs.Prelude.{nat_lt, option_map}
 use Rattle.std.proofs.lemmas.Bool.{cases_Bool}
 use Rattle.std.proofs.lemmas.Bool.Decides.{nat_tests}
 use Rattle.cfs_file.specs.declared.sizes.TheConstants.{FILE_BLOCKS}
-use Rattle.cfs_file.specs.declared.span.Span.{Span}
 use Rattle.cfs_file.specs.Span.{meets}
-use Rattle.cfs_core.specs.declared.event.End.{End}
 use Rattle.cfs_core.specs.declared.event.End.TheVariants as ends
 use Rattle.cfs_core.specs.declared.event.Event.TheVariants as events
 use Rattle.cfs_core.specs.declared.event.SizeEnd.{SizeEnd}
@@ -14,15 +12,14 @@ use Rattle.cfs_core.specs.declared.event.SizeEnd.TheVariants as sizes
 use Rattle.cfs_core.specs.declared.flag.Flag.{Flag}
 use Rattle.cfs_core.specs.declared.flag.Flag.TheVariants as flags
 use Rattle.cfs_core.specs.declared.inode_core.Core.{Core}
-use Rattle.cfs_core.specs.declared.state.Job.{Job}
 use Rattle.cfs_core.specs.declared.state.Lease.{Lease}
 use Rattle.cfs_core.specs.declared.state.State.{State}
 use Rattle.cfs_core.specs.declared.state.State.TheVariants as states
 use Rattle.cfs_core.specs.declared.track.Track.{Track}
 use Rattle.cfs_core.specs.Words.{block_span, has_block, is_done, is_lease, is_on, is_out, is_through, sized, track}
-use Rattle.cfs_core.specs.Jobs.{done_after, is_above, is_wanted, last_of, next_block}
-use Rattle.cfs_core.specs.May.{ends_well, may, stands_at}
-use Rattle.cfs_core.specs.After.{after, more_to_come, put_back as back_track, retired as retired_track, with_track}
+use Rattle.cfs_core.specs.Jobs.{done_after, is_above, last_of, next_block}
+use Rattle.cfs_core.specs.May.{ends_well, keeps_gate, may, stands_at}
+use Rattle.cfs_core.specs.After.{after, more_to_come, put_back as back_track, retired as retired_track}
 use Rattle.cfs_core.proofs.Legal.{both, or_right}
 use Rattle.cfs_core.proofs.Order.{same_or_not}
 use Rattle.cfs_core_laws.specs.Reached.{IsReached}
@@ -37,7 +34,7 @@ use Rattle.cfs_tracker.specs.declared.doing.Doing.{Doing}
 use Rattle.cfs_tracker.specs.declared.doing.Doing.TheVariants as doings
 use Rattle.cfs_tracker.specs.declared.pending.Pending.{Pending}
 use Rattle.cfs_tracker.specs.declared.tile.Tile.{Tile}
-use Rattle.cfs_tracker.specs.View.{TrackerView, doing, entry_at, entry_place, read_at, with_entry, without}
+use Rattle.cfs_tracker.specs.View.{TrackerView, doing, entry_at, entry_place, with_entry, without}
 use Rattle.cfs_tracker.specs.Cells.{cell_at}
 use Rattle.cfs_tracker.specs.Dispatch.{next_cell}
 use Rattle.cfs_tracker.specs.Finish.{IsOut, applied, applied_at, applied_entry, applied_in, as_far, blocks_in, blocks_out, done_with, home, is_last, is_last_entry, is_last_of, last_number, more, more_entry, number_of, put_back, retired, size_after, size_unsure, span_in}
@@ -301,7 +298,8 @@ follows-retired view core place first second h last follows through =
     through (last-track view core place first second is follows last) in (
       may_be,
       follows-put view core place (retired_track t) (without place view.entries) view.reads
-          (home second (home first view.cells)) (sized core.size t.span) [] (size_after view place) true
+          (home second (home first view.cells)) (sized core.size t.span) [] (size_after view place)
+          true
           follows (comes core (events.Finish place ends.Retired) follows.reached may_be)
           (span-is view core place first second is follows) (λ sure. refl)
           (ends-put view core place first second (retired_track t) (without place view.entries) is
@@ -312,6 +310,24 @@ follows-retired view core place first second h last follows through =
             free = λ block has. no-block states.Closed block refl has;
           })),
     )
+
+keeps-same : (gate : Flag) → keeps_gate gate gate ≡ true
+keeps-same flags.Off = refl
+keeps-same flags.On = refl
+keeps-same flags.Unsure = refl
+
+-- before its gate is closed: the size word is set
+pub may-size : {S D B : Type 0} (view : TrackerView S D B) (core : Core) (place : ℕ)
+    (first second : Option (Tile B)) → IsOut view place first second →
+    is_last view place ≡ true → Follows view core →
+    is_through (track core.tracks place).state ≡ true →
+    may core (events.Finish place (ends.Back sizes.Set (track core.tracks place).gate true)) ≡ true
+may-size view core place first second h last follows through =
+    let is = ending view place first second h in
+    let out = is-out view core place first second is follows in
+    let bytes = stands view core place first second is follows last through in
+    let keeps = keeps-same (track core.tracks place).gate in
+    rw (follows.up, out, keeps, bytes) (or_right (track core.tracks place).applied true refl)
 
 -- ---- it waits again
 
@@ -359,15 +375,18 @@ follows-more view core place slots first second h follows through =
       follows-put view core place (more_to_come t)
           (with_entry place change view.entries) view.reads (home second (home first view.cells))
           core.size core.sizes view.stored view.is_sure follows
-          (comes core (events.Finish place ends.More) follows.reached may_be) follows.size follows.sure
-          (ends-put view core place first second (more_to_come t) (with_entry place change view.entries)
+          (comes core (events.Finish place ends.More) follows.reached may_be) follows.size
+          follows.sure
+          (ends-put view core place first second (more_to_come t) (with_entry place change
+          view.entries)
           is follows (again view place (more_to_come t) is.entry change (λ e. refl) is.there refl
           (record {
             grant = own.grant;
             span = own.span;
             applied = own.applied;
             done = done-same t.done t.state (number_of first) (number_of second) job
-                ∙ ap (λ (d : Option ℕ). last_number d (number_of first) (number_of second)) own.done;
+                ∙ ap (λ (d : Option ℕ). last_number d (number_of first) (number_of second))
+                own.done;
             doing = refl;
             gate = out-alive is.entry t (number_of first) (number_of second) own is.out;
             idle = λ applied block. refl;
@@ -467,9 +486,11 @@ follows-back {S} view core place slots first second h follows =
     let now : Doing S = doings.Waiting slots in (
       may_be,
       follows-put view core place t (with_entry place (doing now) view.entries) view.reads
-          (home second (home first view.cells)) core.size core.sizes view.stored view.is_sure follows
+          (home second (home first view.cells)) core.size core.sizes view.stored view.is_sure
+          follows
           (comes core (events.Finish place end) follows.reached may_be) follows.size follows.sure
-          (ends-put view core place first second t (with_entry place (doing now) view.entries) is follows
+          (ends-put view core place first second t (with_entry place (doing now) view.entries) is
+          follows
           (again view place t is.entry (doing now) (λ e. refl) is.there refl
           (back-track-is view core place slots first second is follows) follows.rise)),
     )
@@ -495,7 +516,8 @@ follows-unsure {S} view core place slots first second h follows =
           (core.sizes ++ core.size ∷ []) (size_after view place) false follows
           (comes core (events.Finish place end) follows.reached may_be)
           (span-is view core place first second is follows) (λ sure. cc)
-          (ends-put view core place first second t (with_entry place (doing now) view.entries) is follows
+          (ends-put view core place first second t (with_entry place (doing now) view.entries) is
+          follows
           (again view place t is.entry (doing now) (λ e. refl) is.there refl
           (back-track-is view core place slots first second is follows) follows.rise)),
     )

@@ -1,5 +1,5 @@
 -- A tracker follows its core through the steps of the jobs, which are made out of its sight.
-use Rattle.std.proofs.Common.{◌≡◌, ◌∙◌, ap, arith, ◌-◌, ◌<◌, ◌&&◌, ◌||◌, ◌==◌, length, List, Option, None, Some, refl, set, sym, true, false, ℕ, Bool, subst, inl, inr}
+use Rattle.std.proofs.Common.{◌≡◌, ◌∙◌, ap, ◌-◌, ◌<◌, ◌==◌, length, List, Option, None, Some, refl, set, sym, true, false, ℕ, Bool, subst, inl, inr}
 use Rattle.std.specs.Prelude.{nat_lt}
 use Rattle.std.proofs.lemmas.Bool.{cases_Bool}
 use Rattle.cfs_file.specs.declared.sizes.TheConstants.{FILE_BLOCKS}
@@ -26,7 +26,7 @@ use Rattle.cfs_tracker.specs.declared.doing.Doing.TheVariants as doings
 use Rattle.cfs_tracker.specs.declared.pending.Pending.{Pending}
 use Rattle.cfs_tracker.specs.declared.reading.Reading.{Reading}
 use Rattle.cfs_tracker.specs.View.{TrackerView, entry_at, read_at}
-use Rattle.cfs_tracker.specs.Follows.{Follows, HasJob, IsDoing, IsTrack, StandsAt, block_of}
+use Rattle.cfs_tracker.specs.Follows.{Follows, HasJob, IsDoing, StandsAt, block_of}
 use Rattle.cfs_tracker.proofs.Putting.{stands-by}
 use Rattle.cfs_tracker.proofs.Tracks.{in-log, track-here}
 
@@ -37,7 +37,8 @@ pub record SameBlocks (old new : State) : Type 0 where
   pub has : (block : ℕ) → has_block new block ≡ has_block old block
   pub job : (first second : Option ℕ) → HasJob old first second → HasJob new first second
 
-write-block : (block : ℕ) (ok : Bool) (lease : Lease) → (lease_written block ok lease).block ≡ lease.block
+write-block : (block : ℕ) (ok : Bool) (lease : Lease) → (lease_written block ok lease).block ≡
+    lease.block
 write-block block ok lease = elim (cases_Bool (lease.block == block)) [
   | inl own ↦ rw own refl
   | inr other ↦ rw other refl
@@ -93,7 +94,11 @@ same-state s = record { has = λ k. refl; job = λ first second is. is }
 write-same : (block : ℕ) (ok : Bool) (s : State) → SameBlocks s (state_written block ok s)
 write-same block ok states.Waiting = same-state states.Waiting
 write-same block ok (states.Out job) =
-    same-jobs job (record { first = note_write block ok job.first; second = note_write block ok job.second })
+    same-jobs job (record {
+      first = note_write block ok job.first;
+      second = note_write block ok
+          job.second;
+    })
     (write-of block ok job.first) (write-of block ok job.second)
 write-same block ok states.Noop = same-state states.Noop
 write-same block ok states.Unserved = same-state states.Unserved
@@ -102,7 +107,11 @@ write-same block ok states.Closed = same-state states.Closed
 flush-same : (block : ℕ) (s : State) → SameBlocks s (state_flushed block s)
 flush-same block states.Waiting = same-state states.Waiting
 flush-same block (states.Out job) =
-    same-jobs job (record { first = note_flush block job.first; second = note_flush block job.second })
+    same-jobs job (record {
+      first = note_flush block job.first;
+      second = note_flush block
+          job.second;
+    })
     (flush-of block job.first) (flush-of block job.second)
 flush-same block states.Noop = same-state states.Noop
 flush-same block states.Unserved = same-state states.Unserved
@@ -112,10 +121,12 @@ flush-same block states.Closed = same-state states.Closed
 
 doing-out : {S : Type 0} (now : Doing S) (s new : State) → is_out s ≡ true → SameBlocks s new →
     IsDoing now s → IsDoing now new
-doing-out (doings.Waiting slots) s new out same is = (let none : is_out s ≡ false = rw is refl in cc)
+doing-out (doings.Waiting slots) s new out same is = (let none : is_out s ≡ false = rw is refl in
+    cc)
 doing-out doings.Marking s new out same is = (let none : is_out s ≡ false = rw is refl in cc)
 doing-out (doings.Out first second) s new out same is = same.job first second is
-doing-out (doings.Covered slots) s new out same is = (let none : is_out s ≡ false = rw is refl in cc)
+doing-out (doings.Covered slots) s new out same is = (let none : is_out s ≡ false = rw is refl in
+    cc)
 doing-out doings.Closing s new out same is = (let none : is_out s ≡ false = rw is refl in cc)
 
 stands-on : {S : Type 0} (entry : Option (Pending S)) (read : Option Reading) (t : Track)
@@ -152,12 +163,17 @@ follows-step view core place new bytes loose follows out same reached = record {
   entries = λ q. elim (same_or_not q place) [
     | inl is ↦
         subst (λ (n : ℕ). StandsAt (entry_at view.entries n) (read_at view.reads n)
-        (track (set core.tracks (place - 1) (record (track core.tracks place) { state = new })) n)) (sym is)
-        (stands-by refl refl (track-here core.tracks place (record (track core.tracks place) { state = new }) inside.0 inside.1)
+        (track (set core.tracks (place - 1) (record (track core.tracks place) { state = new })) n))
+        (sym is)
+        (stands-by refl refl (track-here core.tracks place (record (track core.tracks place) {
+          state = new;
+        }) inside.0 inside.1)
         (stands-on (entry_at view.entries place) (read_at view.reads place)
         (track core.tracks place) new out same (follows.entries place)))
     | inr apart ↦
-        stands-by refl refl (track_beside core.tracks place q (record (track core.tracks place) { state = new }) inside.0 apart) (follows.entries q)
+        stands-by refl refl (track_beside core.tracks place q (record (track core.tracks place) {
+          state = new;
+        }) inside.0 apart) (follows.entries q)
   ];
   rise = follows.rise;
   reads_rise = follows.reads_rise;
@@ -169,11 +185,15 @@ follows-step view core place new bytes loose follows out same reached = record {
         subst (λ (n : ℕ). has_block (track core.tracks n).state block ≡ true) (sym is)
         (sym (same.has block)
         ∙ subst (λ (u : Track). has_block u.state block ≡ true)
-        (ap (λ (n : ℕ). track (set core.tracks (place - 1) (record (track core.tracks place) { state = new })) n) is
-        ∙ track-here core.tracks place (record (track core.tracks place) { state = new }) inside.0 inside.1) has)
+        (ap (λ (n : ℕ). track (set core.tracks (place - 1) (record (track core.tracks place) {
+          state = new;
+        })) n) is
+        ∙ track-here core.tracks place (record (track core.tracks place) { state = new }) inside.0
+        inside.1) has)
     | inr apart ↦
         subst (λ (u : Track). has_block u.state block ≡ true)
-        (track_beside core.tracks place q (record (track core.tracks place) { state = new }) inside.0 apart) has
+        (track_beside core.tracks place q (record (track core.tracks place) { state = new })
+        inside.0 apart) has
   ]);
   doubt = follows.doubt;
 }

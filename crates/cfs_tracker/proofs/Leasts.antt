@@ -1,5 +1,5 @@
 -- What is named first is the least.
-use Rattle.std.proofs.Common.{◌≡◌, ◌∙◌, ap, arith, ◌≤◌, cond, inl, inr, List, [], ◌∷◌, Option, None, Some, refl, suc, sym, true, false, zero, ℕ, Bool}
+use Rattle.std.proofs.Common.{◌≡◌, ◌∙◌, arith, ◌≤◌, inl, inr, List, [], ◌∷◌, Option, None, Some, refl, suc, sym, true, zero, ℕ, Bool}
 use Rattle.std.specs.Prelude.{nat_le}
 use Rattle.std.specs.List.{find, slice_get}
 use Rattle.std.specs.Option.{option_or}
@@ -9,10 +9,10 @@ use Rattle.cfs_core.specs.declared.inode_core.Core.{Core}
 use Rattle.cfs_tracker.specs.declared.pending.Pending.{Pending}
 use Rattle.cfs_tracker.specs.declared.reading.Reading.{Reading}
 use Rattle.cfs_tracker.specs.View.{TrackerView, entry_place, reading_place}
-use Rattle.cfs_tracker.specs.Dispatch.{ahead, is_ahead, is_read_ahead, lesser, read_place}
+use Rattle.cfs_tracker.specs.Dispatch.{is_ahead, is_read_ahead, lesser, read_place}
 use Rattle.cfs_tracker.specs.Follows.{Follows, Rise}
 use Rattle.cfs_tracker.specs.Least.{NoEntryIsLess, NoReadIsLess, NoneIsLessForReads}
-use Rattle.cfs_tracker.specs.Reads.{blocker_of_read, has_needed, is_before, place_of}
+use Rattle.cfs_tracker.specs.Reads.{has_needed, is_before, place_of}
 use Rattle.cfs_tracker.proofs.Entries.{least}
 
 none-passes : {X : Type 0} (test : X → Bool) (xs : List X) (y : X) (k : ℕ) →

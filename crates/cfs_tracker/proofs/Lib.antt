@@ -16,3 +16,7 @@ pub mod Finishing
 pub mod Trimming
 pub mod JobSteps
 pub mod Leasts
+pub mod Windows
+pub mod Behind
+pub mod Named
+pub mod HandedOut

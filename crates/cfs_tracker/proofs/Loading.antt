@@ -1,5 +1,5 @@
 -- A tracker follows a fresh core.
-use Rattle.std.proofs.Common.{◌≡◌, ◌∙◌, ap, arith, ◌<◌, get_or, inl, inr, length, List, [], ◌∷◌, None, Some, refl, sym, true, false, zero, suc, ◌-◌, ℕ, Bool, subst, replicate}
+use Rattle.std.proofs.Common.{◌≡◌, ◌∙◌, ap, get_or, inl, inr, List, [], ◌∷◌, None, refl, sym, true, zero, suc, ◌-◌, ℕ, subst, replicate}
 use Rattle.std.proofs.lemmas.List.{length-replicate}
 use Rattle.std.specs.Prelude.{Result, Ok, Err, IfOk}
 use Rattle.std.specs.List.{list_all}
@@ -9,23 +9,18 @@ use Rattle.cfs_core.specs.declared.flag.Flag.TheVariants as flags
 use Rattle.cfs_core.specs.declared.inode_core.Core.{Core}
 use Rattle.cfs_core.specs.declared.state.State.TheVariants as states
 use Rattle.cfs_core.specs.declared.track.Track.{Track}
-use Rattle.cfs_core.specs.Words.{has_block, is_off, track}
-use Rattle.cfs_core.specs.Medium.{file}
+use Rattle.cfs_core.specs.Words.{is_off, track}
 use Rattle.cfs_core.specs.Fresh.{IsEmpty, IsFresh}
 use Rattle.cfs_core.proofs.Freshly.{fresh-empty}
 use Rattle.cfs_core.proofs.Order.{same_or_not, track_is}
 use Rattle.cfs_core_laws.specs.Reached.IsReached.{begins}
 use Rattle.cfs_tracker.specs.declared.cell.Cell.{Cell}
 use Rattle.cfs_tracker.specs.declared.cell.Cell.TheVariants as kinds
-use Rattle.cfs_tracker.specs.declared.pending.Pending.{Pending}
-use Rattle.cfs_tracker.specs.declared.reading.Reading.{Reading}
-use Rattle.cfs_tracker.specs.declared.in_doubt.InDoubt.{InDoubt}
 use Rattle.cfs_tracker.specs.declared.tracker.Tracker.{Tracker}
-use Rattle.cfs_tracker.specs.View.{TrackerView, entry_at, read_at, view_of}
+use Rattle.cfs_tracker.specs.View.{TrackerView, read_at, view_of}
 use Rattle.cfs_tracker.specs.Cells.{cell_at}
-use Rattle.cfs_tracker.specs.Follows.{CellStands, DoubtStands, Follows, Rise, StandsAt}
+use Rattle.cfs_tracker.specs.Follows.{Follows}
 use Rattle.cfs_tracker.specs.New.{IsLoaded, stored_view}
-use Rattle.cfs_tracker.proofs.Putting.{stands-by}
 use Rattle.cfs_tracker.proofs.Tracks.{no-block}
 
 no-track : (q : ℕ) → (track [] q).state ≡ states.Closed

@@ -1,7 +1,7 @@
 -- A waiting change that a later one covers becomes a no-op.
-use Rattle.std.proofs.Common.{◌≡◌, ◌∙◌, ap, arith, ◌-◌, ◌<◌, ◌==◌, ◌&&◌, inl, inr, length, List, not, Option, None, Some, refl, sym, true, false, ℕ, Bool, subst, drop, take}
+use Rattle.std.proofs.Common.{◌≡◌, ◌∙◌, ap, arith, ◌&&◌, inl, inr, List, not, Option, None, Some, refl, sym, true, false, ℕ, Bool, subst}
 use Rattle.std.specs.Prelude.{nat_lt, option_map}
-use Rattle.std.specs.List.{find, list_any}
+use Rattle.std.specs.List.{list_any}
 use Rattle.std.proofs.lemmas.Bool.{cases_Bool}
 use Rattle.std.proofs.lemmas.Bool.Decides.{nat_tests}
 use Rattle.cfs_file.specs.declared.span.Span.{Span}
@@ -22,7 +22,7 @@ use Rattle.cfs_tracker.specs.declared.doing.Doing.TheVariants as doings
 use Rattle.cfs_tracker.specs.declared.pending.Pending.{Pending}
 use Rattle.cfs_tracker.specs.declared.reading.Reading.{Reading}
 use Rattle.cfs_tracker.specs.View.{TrackerView, doing, entry_at, is_read_at, read_at, with_entry}
-use Rattle.cfs_tracker.specs.Dispatch.{is_waiting_doing, waiting_in, waiting_slots}
+use Rattle.cfs_tracker.specs.Dispatch.{waiting_in, waiting_slots}
 use Rattle.cfs_tracker.specs.Follows.{Follows, IsDoing, IsTrack, gate_for, is_dead}
 use Rattle.cfs_tracker.specs.Mark.{is_marking_by, is_marking_doing, is_read_between, marked, marked_doing, marking, may_cover, may_mark_both}
 use Rattle.cfs_tracker.specs.Reads.{is_live_doing}
@@ -30,7 +30,7 @@ use Rattle.cfs_tracker.proofs.Earlier.{between-none, live-yes, read-entry}
 use Rattle.cfs_tracker.proofs.Entries.{at-with, found-not, found-place, here-with, none-any, rise-with}
 use Rattle.cfs_tracker.proofs.Putting.{follows-put, follows-redo, read-of, redo-alike, stands-by, track-of}
 use Rattle.cfs_tracker.proofs.Readings.{read-place}
-use Rattle.cfs_tracker.proofs.Tracks.{in-log, no-block}
+use Rattle.cfs_tracker.proofs.Tracks.{in-log}
 
 -- ---- its slots are taken out
 
@@ -217,7 +217,8 @@ follows-marked {S} view core place by slots kept h follows =
     let inside = in-log is_waiting refl core.tracks place
     (ap (λ (s : State). is_waiting s) waits) in
     let now : Doing S = marked_doing slots kept in
-    let unread : read_at view.reads place ≡ None = read-of view core place is.entry follows is.here in
+    let unread : read_at view.reads place ≡ None = read-of view core place is.entry follows is.here
+    in
     let there : entry_at (with_entry place (doing now) view.entries) place
     ≡ Some (doing now is.entry) =
     here-with view.entries place (doing now) (λ e. refl) ∙ ap (option_map (doing now)) is.here in (

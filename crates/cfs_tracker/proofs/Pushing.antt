@@ -1,12 +1,11 @@
 -- A tracker goes on to follow its core where one request is logged.
-use Rattle.std.proofs.Common.{◌≡◌, ◌∙◌, ap, arith, ◌+◌, ◌++◌, ◌-◌, ◌<◌, ◌≤◌, ◌==◌, get_or, inl, inr, length, List, [], ◌∷◌, Option, None, Some, refl, suc, sym, true, false, zero, ℕ, Bool, subst, length-append}
+use Rattle.std.proofs.Common.{◌≡◌, ◌∙◌, ap, arith, ◌+◌, ◌++◌, ◌-◌, ◌<◌, ◌≤◌, ◌==◌, get_or, inl, inr, length, List, [], ◌∷◌, Option, None, Some, refl, suc, sym, true, false, zero, ℕ, subst, length-append}
 use Rattle.std.specs.List.{slice_get}
 use Rattle.std.proofs.lemmas.Bool.{cases_lt}
 use Rattle.std.proofs.lemmas.Bool.Decides.{nat_tests}
 use Rattle.std.proofs.lemmas.List.{get_or_append_left, get_or-append_right, get_or_past}
 use Rattle.cfs_file.specs.declared.entry.Entry.{Entry}
 use Rattle.cfs_file.specs.File.{effect}
-use Rattle.cfs_file.specs.Log.{file_of}
 use Rattle.cfs_file.proofs.Logs.{file_of-append}
 use Rattle.cfs_core.specs.declared.inode_core.Core.{Core}
 use Rattle.cfs_core.specs.declared.state.State.{State}
@@ -20,13 +19,11 @@ use Rattle.cfs_core.proofs.Order.{same_or_not, track_is}
 use Rattle.cfs_core_laws.specs.Reached.{IsReached}
 use Rattle.cfs_core_laws.proofs.Doubts.{in-step}
 use Rattle.cfs_core_laws.proofs.Whole.{whole}
-use Rattle.cfs_tracker.specs.declared.cell.Cell.TheVariants as kinds
 use Rattle.cfs_tracker.specs.declared.doing.Doing.{Doing}
 use Rattle.cfs_tracker.specs.declared.doing.Doing.TheVariants as doings
 use Rattle.cfs_tracker.specs.declared.pending.Pending.{Pending}
 use Rattle.cfs_tracker.specs.declared.reading.Reading.{Reading}
 use Rattle.cfs_tracker.specs.View.{TrackerView, entry_at, entry_place, read_at, reading_place}
-use Rattle.cfs_tracker.specs.Cells.{cell_at}
 use Rattle.cfs_tracker.specs.Follows.{Follows, IsDoing, Rise, StandsAt}
 use Rattle.cfs_tracker.proofs.Putting.{stands-by}
 
@@ -59,7 +56,8 @@ track-last tracks t =
 
 track-past : (tracks : List Track) (q : ℕ) → length tracks < q → track tracks q ≡ blank
 track-past tracks q less =
-    track_is tracks q (q - 1) (λ e. omega arith) refl ∙ get_or_past tracks (q - 1) blank (omega arith)
+    track_is tracks q (q - 1) (λ e. omega arith) refl ∙ get_or_past tracks (q - 1) blank (omega
+    arith)
 
 track-far : (tracks : List Track) (t : Track) (q : ℕ) → length tracks + 1 < q →
     track (tracks ++ t ∷ []) q ≡ track tracks q
@@ -108,7 +106,8 @@ sync-old log e q apart = elim (same_or_not q 0) [
   | inl none ↦ rw none refl
   | inr some ↦
       sync-is (log ++ e ∷ []) q some
-      ∙ (ap is_sync (get-old log e (q - 1) (λ same. apart (omega arith))) ∙ sym (sync-is log q some))
+      ∙ (ap is_sync (get-old log e (q - 1) (λ same. apart (omega arith))) ∙ sym (sync-is log q
+      some))
 ]
 
 sync-last : (log : List Entry) (e : Entry) →

@@ -1,5 +1,5 @@
 -- A tracker goes on to follow its core where one track is put.
-use Rattle.std.proofs.Common.{◌≡◌, ◌∙◌, ap, arith, ◌-◌, ◌<◌, get_or, inl, inr, length, List, [], Option, None, Some, refl, set, sym, true, false, ℕ, Bool, subst, length-set}
+use Rattle.std.proofs.Common.{◌≡◌, ◌∙◌, ap, ◌-◌, ◌<◌, get_or, inl, inr, length, List, [], Option, None, Some, refl, set, sym, true, ℕ, Bool, subst}
 use Rattle.std.specs.Prelude.{option_map}
 use Rattle.cfs_file.specs.declared.sizes.TheConstants.{FILE_BLOCKS}
 use Rattle.cfs_core.specs.declared.flag.Flag.TheVariants as flags
@@ -7,7 +7,6 @@ use Rattle.cfs_core.specs.declared.inode_core.Core.{Core}
 use Rattle.cfs_core.specs.declared.state.State.{State}
 use Rattle.cfs_core.specs.declared.track.Track.{Track}
 use Rattle.cfs_core.specs.Words.{has_block, track}
-use Rattle.cfs_core.specs.May.{is_sync_at}
 use Rattle.cfs_core.specs.After.{with_track}
 use Rattle.cfs_core.proofs.Marks.{track_beside}
 use Rattle.cfs_core.proofs.Order.{same_or_not}
@@ -17,7 +16,7 @@ use Rattle.cfs_tracker.specs.declared.cell.Cell.TheVariants as kinds
 use Rattle.cfs_tracker.specs.declared.doing.Doing.{Doing}
 use Rattle.cfs_tracker.specs.declared.pending.Pending.{Pending}
 use Rattle.cfs_tracker.specs.declared.reading.Reading.{Reading}
-use Rattle.cfs_tracker.specs.View.{TrackerView, doing, entry_at, entry_place, read_at, reading_place, with_entry, without}
+use Rattle.cfs_tracker.specs.View.{TrackerView, doing, entry_at, entry_place, read_at, reading_place, with_entry}
 use Rattle.cfs_tracker.specs.Cells.{cell_at}
 use Rattle.cfs_tracker.specs.Follows.{CellStands, Follows, IsDoing, IsTrack, Rise, StandsAt, gate_for, is_dead}
 use Rattle.cfs_tracker.proofs.Entries.{at-with, here-with, rise-with}
@@ -61,9 +60,11 @@ read-of view core place entry follows is =
 
 pub entries-are : {S D B : Type 0} (view : TrackerView S D B) (core : Core)
     {items entries : List (Pending S)} → items ≡ entries →
-    Follows (record view { entries = entries }) core → Follows (record view { entries = items }) core
+    Follows (record view { entries = entries }) core → Follows (record view { entries = items })
+    core
 entries-are {S} view core {items} {entries} same follows =
-    subst (λ (es : List (Pending S)). Follows (record view { entries = es }) core) (sym same) follows
+    subst (λ (es : List (Pending S)). Follows (record view { entries = es }) core) (sym same)
+    follows
 
 redo-one : {S : Type 0} (now : Doing S) (entry : Option (Pending S)) (read : Option Reading)
     (t : Track) →
@@ -86,7 +87,8 @@ follows-redo {S} view core place now follows keeps = record {
   size = follows.size;
   sure = follows.sure;
   entries = λ q. elim (same_or_not q place) [
-    | inl same ↦ subst (λ (n : ℕ). StandsAt (entry_at (with_entry place (doing now) view.entries) n) (read_at view.reads n) (track core.tracks n)) (sym same)
+    | inl same ↦ subst (λ (n : ℕ). StandsAt (entry_at (with_entry place (doing now) view.entries)
+        n) (read_at view.reads n) (track core.tracks n)) (sym same)
         (stands-by (here-with view.entries place (doing now) (λ e. refl)) refl refl
         (redo-one now (entry_at view.entries place) (read_at view.reads place)
         (track core.tracks place) keeps (follows.entries place)))
@@ -148,43 +150,47 @@ pub follows-put : {S D B : Type 0} (view : TrackerView S D B) (core : Core) (pla
       stored = stored;
       is_sure = is_sure;
     }) (record (with_track core place t) { size = size; sizes = sizes })
-follows-put {S} {D} {B} view core place t entries reads cells size sizes stored is_sure follows reached known sure puts = record {
-  reached = reached;
-  up = follows.up;
-  count = follows.count;
-  long = follows.long;
-  size = known;
-  sure = sure;
-  entries = λ q. elim (same_or_not q place) [
-    | inl same ↦ subst (λ (n : ℕ). StandsAt (entry_at entries n) (read_at reads n) (track (set core.tracks (place - 1) t) n)) (sym same)
-        (stands-by refl refl (track-here core.tracks place t puts.some puts.within) puts.here)
-    | inr apart ↦
-        stands-by (puts.entries_beside q apart) (puts.reads_beside q apart)
-        (track_beside core.tracks place q t puts.some apart) (follows.entries q)
-  ];
-  rise = puts.rise;
-  reads_rise = puts.reads_rise;
-  syncs = λ q read is. elim (same_or_not q place) [
-    | inl same ↦
-        let none : read_at reads q ≡ None = subst (λ (n : ℕ). read_at reads n ≡ None) (sym same) puts.unread in
-        cc
-    | inr apart ↦ follows.syncs q read (sym (puts.reads_beside q apart) ∙ is)
-  ];
-  many = puts.many;
-  cells = puts.cells_stand;
-  lent = λ q block has. elim (same_or_not q place) [
-    | inl same ↦
-        subst (λ (n : ℕ). cell_at cells block ≡ kinds.Lent n) (sym same)
-        (puts.lent block
-        (subst (λ (u : Track). has_block u.state block ≡ true)
-        (ap (λ (n : ℕ). track (set core.tracks (place - 1) t) n) same ∙ track-here core.tracks place t puts.some puts.within) has))
-    | inr apart ↦
-        puts.lent_beside q block apart
-        (subst (λ (u : Track). has_block u.state block ≡ true)
-        (track_beside core.tracks place q t puts.some apart) has)
-  ];
-  doubt = follows.doubt;
-}
+follows-put {S} {D} {B} view core place t entries reads cells size sizes stored is_sure follows
+    reached known sure puts = record {
+      reached = reached;
+      up = follows.up;
+      count = follows.count;
+      long = follows.long;
+      size = known;
+      sure = sure;
+      entries = λ q. elim (same_or_not q place) [
+        | inl same ↦ subst (λ (n : ℕ). StandsAt (entry_at entries n) (read_at reads n) (track (set
+            core.tracks (place - 1) t) n)) (sym same)
+            (stands-by refl refl (track-here core.tracks place t puts.some puts.within) puts.here)
+        | inr apart ↦
+            stands-by (puts.entries_beside q apart) (puts.reads_beside q apart)
+            (track_beside core.tracks place q t puts.some apart) (follows.entries q)
+      ];
+      rise = puts.rise;
+      reads_rise = puts.reads_rise;
+      syncs = λ q read is. elim (same_or_not q place) [
+        | inl same ↦
+            let none : read_at reads q ≡ None = subst (λ (n : ℕ). read_at reads n ≡ None) (sym same)
+            puts.unread in
+            cc
+        | inr apart ↦ follows.syncs q read (sym (puts.reads_beside q apart) ∙ is)
+      ];
+      many = puts.many;
+      cells = puts.cells_stand;
+      lent = λ q block has. elim (same_or_not q place) [
+        | inl same ↦
+            subst (λ (n : ℕ). cell_at cells block ≡ kinds.Lent n) (sym same)
+            (puts.lent block
+            (subst (λ (u : Track). has_block u.state block ≡ true)
+            (ap (λ (n : ℕ). track (set core.tracks (place - 1) t) n) same ∙ track-here core.tracks
+            place t puts.some puts.within) has))
+        | inr apart ↦
+            puts.lent_beside q block apart
+            (subst (λ (u : Track). has_block u.state block ≡ true)
+            (track_beside core.tracks place q t puts.some apart) has)
+      ];
+      doubt = follows.doubt;
+    }
 
 pub reads-are : {S D B : Type 0} (view : TrackerView S D B) (core : Core)
     {items reads : List Reading} → items ≡ reads →

@@ -1,5 +1,5 @@
 -- Reads and syncs are admitted, served and dropped.
-use Rattle.std.proofs.Common.{◌≡◌, ◌∙◌, ap, arith, ◌+◌, ◌++◌, ◌-◌, ◌<◌, ◌==◌, ◌&&◌, ◌||◌, inl, inr, length, List, [], ◌∷◌, not, Option, None, Some, refl, sym, true, false, ℕ, Bool, subst, take}
+use Rattle.std.proofs.Common.{◌≡◌, ◌∙◌, ap, arith, ◌+◌, ◌++◌, ◌<◌, ◌==◌, ◌&&◌, ◌||◌, inl, inr, length, List, [], ◌∷◌, not, Option, None, Some, refl, sym, true, false, ℕ, Bool}
 use Rattle.std.specs.Prelude.{is_some, nat_lt}
 use Rattle.std.specs.List.{find, list_any}
 use Rattle.std.specs.Option.{option_or}
@@ -13,14 +13,13 @@ use Rattle.cfs_file.specs.File.{effect}
 use Rattle.cfs_file.specs.Span.{meets, span}
 use Rattle.cfs_core.specs.declared.event.Event.TheVariants as events
 use Rattle.cfs_core.specs.declared.inode_core.Core.{Core}
-use Rattle.cfs_core.specs.declared.state.State.{State}
 use Rattle.cfs_core.specs.declared.state.State.TheVariants as states
 use Rattle.cfs_core.specs.declared.track.Track.{Track}
 use Rattle.cfs_core.specs.Words.{blocks_needed, has_block, is_lent, is_live, is_unserved, track}
 use Rattle.cfs_core.specs.Medium.{file}
-use Rattle.cfs_core.specs.May.{are_stored, has_live, is_query, is_sync_at, is_sync_request, may, meets_live, must_wait, span_now}
+use Rattle.cfs_core.specs.May.{are_stored, is_query, is_sync_at, may, must_wait, span_now}
 use Rattle.cfs_core.specs.After.{after, query_track}
-use Rattle.cfs_core.proofs.Legal.{and_all, neither}
+use Rattle.cfs_core.proofs.Legal.{neither}
 use Rattle.cfs_core_laws.specs.Reached.IsReached.{comes}
 use Rattle.cfs_tracker.specs.declared.pending.Pending.{Pending}
 use Rattle.cfs_tracker.specs.declared.reading.Reading.{Reading}
@@ -183,7 +182,8 @@ pub follows-served : {S D B : Type 0} (view : TrackerView S D B) (core : Core) (
 follows-served {S} view core place bytes there ready follows stored =
     let read = some-read (read_at view.reads place) there in
     let is = read-is view core place read.0 follows read.1 in
-    let waits : blocker_of_read view.entries read.0 ≡ None = sym (ap (blocker_of view.entries) read.1) ∙ ready in
+    let waits : blocker_of_read view.entries read.0 ≡ None = sym (ap (blocker_of view.entries)
+    read.1) ∙ ready in
     let both = or-none (place_of (find (is_before read.0) view.entries))
     (place_of (find (λ e. has_needed read.0.span e.doing) view.entries)) waits in
     let quiet_ = is-quiet view core place read.0 follows is
@@ -257,6 +257,7 @@ follows-read view core request entry query follows next same =
                 let it : reading request view ≡ read = cc in
                 rw (sym it, same) refl;
             long_is = ap length (query-keeps (file core) entry.request asks) ∙ follows.long;
-            free = λ block has. (let none_of : has_block states.Unserved block ≡ false = refl in cc);
+            free = λ block has. (let none_of : has_block states.Unserved block ≡ false = refl in
+                cc);
           }),
     )

@@ -1,5 +1,5 @@
 -- The request in doubt is closed.
-use Rattle.std.proofs.Common.{◌≡◌, Option, None, Some, refl, true, ℕ, Bool}
+use Rattle.std.proofs.Common.{◌≡◌, Option, None, Some, refl, true}
 use Rattle.std.specs.Prelude.{is_some}
 use Rattle.cfs_core.specs.declared.doubt.Doubt.{Doubt}
 use Rattle.cfs_core.specs.declared.event.Event.TheVariants as events

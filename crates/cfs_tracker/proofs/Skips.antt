@@ -1,20 +1,18 @@
 -- No-ops are taken out, put back and closed.
-use Rattle.std.proofs.Common.{◌≡◌, ◌∙◌, ap, ◌-◌, ◌<◌, length, Option, None, Some, refl, sym, true, false, ℕ, Bool, subst}
+use Rattle.std.proofs.Common.{◌≡◌, ◌∙◌, ap, Option, None, Some, refl, sym, true, ℕ}
 use Rattle.cfs_core.specs.declared.event.Event.TheVariants as events
 use Rattle.cfs_core.specs.declared.inode_core.Core.{Core}
 use Rattle.cfs_core.specs.declared.state.State.{State}
 use Rattle.cfs_core.specs.declared.state.State.TheVariants as states
-use Rattle.cfs_core.specs.declared.track.Track.{Track}
-use Rattle.cfs_core.specs.Words.{has_block, is_noop, track}
+use Rattle.cfs_core.specs.Words.{is_noop, track}
 use Rattle.cfs_core.specs.May.{may}
 use Rattle.cfs_core.specs.After.{after, retired}
-use Rattle.cfs_core_laws.specs.Reached.{IsReached}
 use Rattle.cfs_core_laws.specs.Reached.IsReached.{comes}
 use Rattle.cfs_tracker.specs.declared.doing.Doing.{Doing}
 use Rattle.cfs_tracker.specs.declared.doing.Doing.TheVariants.{Waiting, Marking, Out, Covered, Closing}
 use Rattle.cfs_tracker.specs.declared.pending.Pending.{Pending}
-use Rattle.cfs_tracker.specs.View.{TrackerView, doing, entry_at, read_at, with_entry, without}
-use Rattle.cfs_tracker.specs.Follows.{Follows, IsDoing, IsTrack, gate_for, is_dead}
+use Rattle.cfs_tracker.specs.View.{TrackerView, entry_at, read_at, without}
+use Rattle.cfs_tracker.specs.Follows.{Follows, IsDoing, is_dead}
 use Rattle.cfs_tracker.specs.Skip.{closing, covered_in, covered_slots, is_closed_by_caller, is_closing, skipped, unclosed}
 use Rattle.cfs_tracker.proofs.Entries.{at-without, here-without, rise-without}
 use Rattle.cfs_tracker.proofs.Tracks.{in-log, no-block}

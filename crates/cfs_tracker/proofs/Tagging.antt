@@ -1,5 +1,5 @@
 -- Blocks are tagged.
-use Rattle.std.proofs.Common.{◌≡◌, ◌∙◌, ap, arith, ◌<◌, cond, get_or, length, List, Option, None, Some, refl, set, sym, true, false, ℕ, Bool, get_or-set_other}
+use Rattle.std.proofs.Common.{◌≡◌, arith, ◌<◌, cond, get_or, length, refl, set, true, false, ℕ, Bool, get_or-set_other}
 use Rattle.std.proofs.lemmas.Grind.{get_or-set_at}
 use Rattle.cfs_file.specs.declared.sizes.TheConstants.{FILE_BLOCKS}
 use Rattle.cfs_core.specs.declared.event.Event.TheVariants as events

@@ -1,8 +1,8 @@
 -- The track of a place.
-use Rattle.std.proofs.Common.{◌≡◌, ◌∙◌, ◌-◌, ◌<◌, arith, get_or, inl, inr, length, List, refl, set, sym, true, false, ℕ, Bool, subst}
+use Rattle.std.proofs.Common.{◌≡◌, ◌∙◌, ◌-◌, ◌<◌, get_or, length, List, refl, set, true, false, ℕ, Bool, subst}
 use Rattle.std.proofs.lemmas.Grind.{get_or-set_at}
 use Rattle.cfs_core.specs.declared.state.State.{State}
-use Rattle.cfs_core.specs.declared.state.State.TheVariants.{Waiting, Out, Noop, Unserved, Closed}
+use Rattle.cfs_core.specs.declared.state.State.TheVariants.{Closed}
 use Rattle.cfs_core.specs.declared.track.Track.{Track}
 use Rattle.cfs_core.specs.Words.{blank, has_block, track}
 use Rattle.cfs_core.proofs.Order.{some_place, track_is}

@@ -1,7 +1,7 @@
 -- A block past the stored size is given up.
-use Rattle.std.proofs.Common.{◌≡◌, ◌∙◌, ap, arith, ◌*◌, ◌<◌, ◌&&◌, ◌==◌, get_or, length, List, not, Option, None, Some, refl, set, sym, true, false, ℕ, Bool, subst, cond, inl, inr, get_or-set_other}
+use Rattle.std.proofs.Common.{◌≡◌, arith, ◌*◌, ◌<◌, ◌&&◌, ◌==◌, get_or, not, Option, None, Some, refl, set, true, false, ℕ, Bool, cond, inl, inr, get_or-set_other}
 use Rattle.std.specs.Prelude.{is_none, nat_le, nat_lt}
-use Rattle.std.specs.List.{find, list_any}
+use Rattle.std.specs.List.{list_any}
 use Rattle.std.proofs.lemmas.Bool.{cases_Bool}
 use Rattle.std.proofs.lemmas.Bool.Decides.{nat_tests}
 use Rattle.std.proofs.lemmas.Grind.{get_or-set_at}
@@ -13,7 +13,7 @@ use Rattle.cfs_core.specs.declared.event.Event.TheVariants as events
 use Rattle.cfs_core.specs.declared.flag.Flag.{Flag}
 use Rattle.cfs_core.specs.declared.flag.Flag.TheVariants as flags
 use Rattle.cfs_core.specs.declared.inode_core.Core.{Core}
-use Rattle.cfs_core.specs.Words.{block_span, has_block, is_lent, is_live, is_off, track}
+use Rattle.cfs_core.specs.Words.{block_span, is_lent, is_live, is_off, track}
 use Rattle.cfs_core.specs.May.{doubt_meets, has_live_in, may}
 use Rattle.cfs_core.specs.After.{after}
 use Rattle.cfs_core.proofs.Apart.{not_true}

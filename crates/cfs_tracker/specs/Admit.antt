@@ -1,5 +1,5 @@
 -- A change takes a place, or is in doubt.
-use Rattle.std.specs.Prelude.{◌≡◌, ℕ, ◌+◌, ◌≤◌, Bool, true, false, not, Option, Some, None, List, [], ◌∷◌, ◌++◌, length, max, find, nat_le}
+use Rattle.std.specs.Prelude.{◌≡◌, ℕ, ◌+◌, ◌≤◌, Bool, true, false, not, Option, Some, None, List, [], ◌∷◌, ◌++◌, length, max, find}
 use Rattle.cfs_file.specs.declared.request.Request.{Request}
 use Rattle.cfs_file.specs.declared.request.Request.TheVariants as requests
 use Rattle.cfs_file.specs.declared.sizes.TheConstants.{LONGEST_FILE}
@@ -10,7 +10,6 @@ use Rattle.cfs_core.specs.May.{is_change}
 use Rattle.cfs_tracker.specs.declared.cell.Cell.{Cell}
 use Rattle.cfs_tracker.specs.declared.cell.Cell.TheVariants.{Hole, Home, Unsure, Lent, Moving}
 use Rattle.cfs_tracker.specs.declared.doing.Doing.TheVariants.{Waiting}
-use Rattle.cfs_tracker.specs.declared.in_doubt.InDoubt.{InDoubt}
 use Rattle.cfs_tracker.specs.declared.pending.Pending.{Pending}
 use Rattle.cfs_tracker.specs.Cells.{cell_at}
 use Rattle.cfs_tracker.specs.View.{TrackerView}

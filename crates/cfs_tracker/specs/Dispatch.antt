@@ -1,7 +1,6 @@
 -- A job takes a change and its next blocks.
-use Rattle.std.specs.Prelude.{◌≡◌, ℕ, ◌==◌, Bool, true, false, not, ◌&&◌, if◌then◌else◌, Option, Some, None, List, [], ◌∷◌, length, find, nat_lt, nat_le, option_map, set}
-use Rattle.std.specs.List.{list_all, range_with_len}
-use Rattle.std.specs.Option.{option_or}
+use Rattle.std.specs.Prelude.{ℕ, Bool, true, false, ◌&&◌, if◌then◌else◌, Option, Some, None, List, length, find, nat_lt, nat_le, option_map, set}
+use Rattle.std.specs.List.{range_with_len}
 use Rattle.cfs_file.specs.declared.sizes.TheConstants.{FILE_BLOCKS}
 use Rattle.cfs_file.specs.declared.span.Span.{Span}
 use Rattle.cfs_file.specs.Span.{meets}
@@ -10,7 +9,7 @@ use Rattle.cfs_core.specs.Jobs.{is_above}
 use Rattle.cfs_tracker.specs.declared.cell.Cell.{Cell}
 use Rattle.cfs_tracker.specs.declared.cell.Cell.TheVariants as kinds
 use Rattle.cfs_tracker.specs.declared.doing.Doing.{Doing}
-use Rattle.cfs_tracker.specs.declared.doing.Doing.TheVariants.{Waiting, Marking, Out, Covered, Closing}
+use Rattle.cfs_tracker.specs.declared.doing.Doing.TheVariants.{Waiting, Out}
 use Rattle.cfs_tracker.specs.declared.pending.Pending.{Pending}
 use Rattle.cfs_tracker.specs.declared.reading.Reading.{Reading}
 use Rattle.cfs_tracker.specs.declared.step.Step.{Step}

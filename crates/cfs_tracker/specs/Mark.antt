@@ -1,5 +1,5 @@
 -- A waiting change that a later one covers becomes a no-op.
-use Rattle.std.specs.Prelude.{ℕ, Bool, true, false, not, ◌&&◌, Option, Some, None, List, find, nat_lt}
+use Rattle.std.specs.Prelude.{◌≡◌, ℕ, Bool, true, false, not, ◌&&◌, Option, Some, None, List, find, nat_lt}
 use Rattle.std.specs.List.{list_any}
 use Rattle.cfs_file.specs.declared.span.Span.{Span}
 use Rattle.cfs_file.specs.Span.{meets, reaches_over}
@@ -66,3 +66,9 @@ may_mark_both reads _ _ = false
 abbrev pub is_marking_by : {S D B : Type 0} → TrackerView S D B → ℕ → ℕ → Bool
 is_marking_by view place by =
     may_mark_both view.reads (entry_at view.entries by) (entry_at view.entries place)
+
+-- what is named as the next to be marked may be marked, once its slots are out
+abbrev pub NamedMayBeMarked : {S D B : Type 0} → TrackerView S D B → Type 0
+NamedMayBeMarked view =
+    (by after place : ℕ) → next_mark view by after ≡ Some place →
+    is_marking_by (marking place view) place by ≡ true

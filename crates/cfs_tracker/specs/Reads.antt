@@ -10,7 +10,7 @@ use Rattle.cfs_tracker.specs.declared.doing.Doing.{Doing}
 use Rattle.cfs_tracker.specs.declared.doing.Doing.TheVariants.{Waiting, Marking, Out, Covered, Closing}
 use Rattle.cfs_tracker.specs.declared.pending.Pending.{Pending}
 use Rattle.cfs_tracker.specs.declared.reading.Reading.{Reading}
-use Rattle.cfs_tracker.specs.View.{TrackerView, is_read_at, read_at}
+use Rattle.cfs_tracker.specs.View.{TrackerView, is_read_at}
 
 abbrev pub without_read : ℕ → List Reading → List Reading
 without_read place reads = filter (λ r. not (is_read_at place r)) reads

@@ -1,6 +1,5 @@
 -- A request is in doubt, and is closed.
-use Rattle.std.specs.Prelude.{ℕ, Bool, true, false, Option, Some, None}
-use Rattle.cfs_file.specs.declared.span.Span.{Span}
+use Rattle.std.specs.Prelude.{Option, Some, None}
 use Rattle.cfs_tracker.specs.declared.in_doubt.InDoubt.{InDoubt}
 use Rattle.cfs_tracker.specs.View.{TrackerView}
 

@@ -1,5 +1,5 @@
 -- What a tracker is seen as.
-use Rattle.std.specs.Prelude.{ℕ, ◌-◌, ◌==◌, ◌≤◌, Bool, true, false, not, if◌then◌else◌, Option, Some, None, List, [], ◌∷◌, filter, find, vec_capacity, vec_len}
+use Rattle.std.specs.Prelude.{ℕ, ◌-◌, ◌==◌, ◌≤◌, Bool, not, if◌then◌else◌, Option, List, [], ◌∷◌, filter, find, vec_capacity, vec_len}
 use Rattle.cfs_tracker.specs.declared.cell.Cell.{Cell}
 use Rattle.cfs_tracker.specs.declared.doing.Doing.{Doing}
 use Rattle.cfs_tracker.specs.declared.in_doubt.InDoubt.{InDoubt}

@@ -1,5 +1,5 @@
 -- What there is to do.
-use Rattle.std.specs.Prelude.{ℕ, Bool, true, false, ◌&&◌, ◌||◌, Option, Some, None, List, find, nat_lt, option_map}
+use Rattle.std.specs.Prelude.{ℕ, Bool, true, false, ◌&&◌, ◌||◌, Option, Some, List, find, nat_lt, option_map}
 use Rattle.std.specs.List.{list_any}
 use Rattle.cfs_file.specs.Span.{meets}
 use Rattle.cfs_tracker.specs.declared.doing.Doing.{Doing}

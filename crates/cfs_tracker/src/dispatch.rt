@@ -1,6 +1,6 @@
 //! A job takes a change and its next blocks.
 
-ghost use Rattle.std.specs.Prelude.{◌≡◌, ◌<◌, Some, find, length, option_copied, true};
+ghost use Rattle.std.specs.Prelude.{◌≡◌, ◌<◌, Some, find, length, option_copied, true, ℕ};
 ghost use Rattle.std.specs.List.{list_all, range_with_len};
 ghost use Rattle.cfs_file.specs.declared.sizes.TheConstants.{FILE_BLOCKS};
 ghost use Rattle.cfs_core.specs.declared.event.Event.TheVariants as events;
@@ -9,6 +9,7 @@ ghost use Rattle.cfs_core.specs.May.{may};
 ghost use Rattle.cfs_core.specs.After.{after};
 ghost use Rattle.cfs_tracker.specs.declared.step.Step.TheVariants.{Takes as takes};
 ghost use Rattle.cfs_tracker.specs.Dispatch.{ahead, dispatched, first_cell, holder, is_still, lesser, second_cell, step_at, step_behind, step_of, step_of_blocks, tile_at, waiting_slots};
+ghost use Rattle.cfs_tracker.specs.Finish.{IsOut};
 ghost use Rattle.cfs_tracker.specs.Follows.{Follows};
 ghost use Rattle.cfs_tracker.specs.View.{KeepsRoom, entry_at, view_of};
 
@@ -106,6 +107,8 @@ impl<S: Drop, D: Drop, B: Drop> Tracker<S, D, B> {
             Some result.slots }
         ensures first { result.first ≡ tile_at (view_of self.old).cells first }
         ensures second { result.second ≡ tile_at (view_of self.old).cells second }
+        ensures ascend { (one two : ℕ) → first ≡ Some one → second ≡ Some two → one < two }
+        ensures out { IsOut (view_of self.new) place result.first result.second }
         ensures view { view_of self.new ≡ dispatched place first second (view_of self.old) }
         ensures room { KeepsRoom self.old self.new }
         ensures follows { (core : Core) → Follows (view_of self.old) core →

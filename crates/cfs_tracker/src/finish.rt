@@ -60,12 +60,17 @@ impl<S: Drop, D: Drop, B: Drop> Tracker<S, D, B> {
     }
 
     /// The entry at a place is retired: its job was through, the size word is as `size_after` says,
-    /// and its gate is closed.
+    /// and its gate is closed. Between the two steps, where the size word is set and the gate is as
+    /// it was, the core is the one after the end that `sized` names.
     pub fn retired(&mut self, place: u64, first: Option<Tile<B>>, second: Option<Tile<B>>)
         requires out { IsOut (view_of self.old) place first second }
         requires last { is_last (view_of self.old) place ≡ true }
         ensures view { view_of self.new ≡ retired place first second (view_of self.old) }
         ensures room { KeepsRoom self.old self.new }
+        ensures sized { (core : Core) → Follows (view_of self.old) core →
+            is_through (track core.tracks place).state ≡ true →
+            let end = ends.Back sizes.Set (track core.tracks place).gate true in
+            may core (events.Finish place end) ≡ true }
         ensures follows { (core : Core) → Follows (view_of self.old) core →
             is_through (track core.tracks place).state ≡ true →
             (may core (events.Finish place ends.Retired) ≡ true)

@@ -1,7 +1,10 @@
 //! Blocks are lent to jobs.
 
-ghost use Rattle.std.specs.Prelude.{◌≡◌, Some, find, is_some, length, true, vec_len};
+ghost use Rattle.std.specs.Prelude.{◌≡◌, ◌-◌, ◌<◌, ◌≤◌, ℕ, Some, false, find, true, vec_len};
 ghost use Rattle.std.specs.List.{range_with_len};
+ghost use Rattle.cfs_file.specs.declared.sizes.TheConstants.{FILE_BLOCKS};
+ghost use Rattle.cfs_file.specs.Span.{meets};
+ghost use Rattle.cfs_core.specs.Words.{block_span};
 ghost use Rattle.cfs_core.specs.Jobs.{is_above};
 ghost use Rattle.cfs_tracker.specs.Dispatch.{holder, is_kept, is_still, is_wanted_cell, lend, next_cell, tile_at};
 
@@ -10,11 +13,60 @@ use crate::{Cell, Tile};
 use cfs_file::{BLOCK_LEN, FILE_BLOCKS, Span, overlaps};
 use std::mem;
 
-/// The next block of the file that an entry of the span wants, behind those that are done.
+/// The next block of the file that an entry of the span wants, behind those that are done. It walks
+/// the blocks of the span alone.
 pub(crate) fn next_cell<B>(cells: &[Cell<B>], span: &Span, done: Option<u64>) -> Option<u64>
     ensures { result ≡ next_cell cells.now span.now done }
 {
-    (0..cells.len() as u64).find(|block| is_wanted(cells, span, done, *block))
+    let count = cells.len() as u64;
+    let low = first_block(*span).max(behind(done)).min(count);
+    let high = end_block(*span).min(count);
+    find_wanted(cells, span, done, low, high)
+}
+
+fn find_wanted<B>(
+    cells: &[Cell<B>],
+    span: &Span,
+    done: Option<u64>,
+    low: u64,
+    high: u64,
+) -> Option<u64>
+    ensures { result ≡
+        find (is_wanted_cell cells.now span.now done) (range_with_len low (high - low)) }
+{
+    (low..high).find(|block| is_wanted(cells, span, done, *block))
+}
+
+/// No block before it has a position of the span.
+fn first_block(span: Span) -> u64
+    ensures { (block : ℕ) → block < result → meets span (block_span block) ≡ false }
+{
+    match span {
+        Span::Range { from, .. } | Span::From { from } => from / BLOCK_LEN,
+        Span::Nothing => 0,
+    }
+}
+
+/// No block of the file from it on has a position of the span.
+fn end_block(span: Span) -> u64
+    ensures { (block : ℕ) → result ≤ block → block < FILE_BLOCKS →
+        meets span (block_span block) ≡ false }
+{
+    match span {
+        Span::Range { to, .. } => to.saturating_sub(1) / BLOCK_LEN + 1,
+        Span::From { .. } => FILE_BLOCKS,
+        Span::Nothing => 0,
+    }
+}
+
+/// No block before it stands behind those that are done.
+fn behind(done: Option<u64>) -> u64
+    ensures { (block : ℕ) → block < result → is_above done block ≡ false }
+{
+    match done {
+        Some(last) => last.saturating_add(1),
+        None => 0,
+    }
 }
 
 fn is_wanted<B>(cells: &[Cell<B>], span: &Span, done: Option<u64>, block: u64) -> bool

@@ -26,8 +26,8 @@ fn marked_doing<S>(slots: S, kept: bool) -> Doing<S>
 }
 
 impl<S: Drop, D: Drop, B: Drop> Tracker<S, D, B> {
-    /// The first waiting entry behind the place `after` that the live entry at `by` covers, and that
-    /// no read between the two overlaps.
+    /// The first waiting entry behind the place `after` that the live entry at `by` covers, and
+    /// that no read between the two overlaps.
     pub fn next_mark(&self, by: u64, after: u64) -> Option<u64>
         ensures { result ≡ next_mark (view_of self.now) by after }
     {

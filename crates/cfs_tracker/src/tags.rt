@@ -61,11 +61,13 @@ impl<S: Drop, D: Drop, B: Drop> Tracker<S, D, B> {
     {
         match self.cells.get(block as usize) {
             Some(Cell::Hole | Cell::Moving(false)) => true,
-            Some(Cell::Home(_) | Cell::Unsure(_) | Cell::Lent(_) | Cell::Moving(true)) | None => false,
+            Some(Cell::Home(_) | Cell::Unsure(_) | Cell::Lent(_) | Cell::Moving(true)) | None =>
+                false,
         }
     }
 
-    /// A zero block was tagged for a block of the file, or, where that was not kept, its tag failed.
+    /// A zero block was tagged for a block of the file, or, where that was not kept, its tag
+    /// failed.
     pub fn tagged(&mut self, block: u64, home: B, kept: bool)
         requires block { block < FILE_BLOCKS }
         requires bare { is_bare (cell_at (view_of self.old).cells block) ≡ true }

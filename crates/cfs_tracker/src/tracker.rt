@@ -8,7 +8,8 @@ use crate::{Cell, InDoubt, Pending, Reading};
 /// What the run time knows of one inode. `S` is what holds a live request, `D` what holds one in
 /// doubt, and `B` is a block of the medium; none of them is looked at.
 ///
-/// A call walks at most what is pending, and of the file's blocks those of one span.
+/// A call walks what is pending and, of the file's blocks, those of one span; `next_work` does so for
+/// each entry behind the place, and `next_trim` walks all blocks of the file.
 #[derive(Debug, Drop)]
 pub struct Tracker<S, D, B> {
     /// How many places were given.

@@ -48,8 +48,8 @@ fn left_cell<B>(left: Option<B>) -> Cell<B>
 }
 
 impl<S: Drop, D: Drop, B: Drop> Tracker<S, D, B> {
-    /// The lowest block of the file that is to be given up: its tag is set or unsure, no job has it,
-    /// it begins at or past the stored size, and no live entry and no request in doubt has a
+    /// The lowest block of the file that is to be given up: its tag is set or unsure, no job has
+    /// it, it begins at or past the stored size, and no live entry and no request in doubt has a
     /// position of it. None exactly where there is none.
     pub fn next_trim(&self) -> Option<u64>
         ensures block { result ≡ next_trim (view_of self.now) }

@@ -111,12 +111,22 @@ fn one_after_another(alloc: Global, rt: &impl Abort) -> Result<(), NoMemory> {
     assert_eq!(rt; admit(&mut tracker, &ten, 1)?, 0);
     tag(&mut tracker, 0, 100);
     assert_eq!(rt; admit(&mut tracker, &ten, 1)?, 1);
-    assert_eq!(rt; admit_read(&mut tracker, 5, 100)?, (2, Span::Range { from: 5, to: 10 }));
+    assert_eq!(rt;
+        admit_read(&mut tracker, 5, 100)?,
+        (2, Span::Range { from: 5, to: 10 })
+    );
     assert_eq!(rt; admit(&mut tracker, &ten, 3)?, 3);
     assert_eq!(rt; tracker.next_mark(3, 0), None);
     assert_eq!(rt; tracker.read_blocker(2), Some(1));
     assert_eq!(rt; tracker.step(3), Step::NotYet(1));
-    assert_eq!(rt; tracker.next_work(0), Some(Work { place: 1, is_noop: false, read_waits: true }));
+    assert_eq!(rt;
+        tracker.next_work(0),
+        Some(Work {
+            place: 1,
+            is_noop: false,
+            read_waits: true
+        })
+    );
     let Some(taken) = dispatch(&mut tracker, 1) else {
         assert!(rt; false);
         return Ok(());
@@ -135,7 +145,14 @@ fn one_after_another(alloc: Global, rt: &impl Abort) -> Result<(), NoMemory> {
     assert_eq!(rt; admit(&mut tracker, &ten, 4)?, 4);
     assert_eq!(rt; mark(&mut tracker, 4, 0), 3);
     assert_eq!(rt; tracker.step(3), Step::NotWaiting);
-    assert_eq!(rt; tracker.next_work(0), Some(Work { place: 3, is_noop: true, read_waits: false }));
+    assert_eq!(rt;
+        tracker.next_work(0),
+        Some(Work {
+            place: 3,
+            is_noop: true,
+            read_waits: false
+        })
+    );
     assert_eq!(rt; tracker.take_covered(3), Some(3));
     assert_eq!(rt; tracker.take_covered(3), None);
     Ok(())
@@ -149,7 +166,10 @@ fn more_than_two_blocks(alloc: Global, rt: &impl Abort) -> Result<(), NoMemory> 
         tracker.bring(block, 100 + block as u32);
     }
     assert_eq!(rt; tracker.next_trim(), None);
-    assert_eq!(rt; admit(&mut tracker, &Request::Truncate { length: 0 }, 1)?, 1);
+    assert_eq!(rt;
+        admit(&mut tracker, &Request::Truncate { length: 0 }, 1)?,
+        1
+    );
     let Some(taken) = dispatch(&mut tracker, 1) else {
         assert!(rt; false);
         return Ok(());

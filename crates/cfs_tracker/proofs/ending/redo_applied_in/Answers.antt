@@ -1,4 +1,4 @@
-use Rattle.std.proofs.Common.{◌≡◌, ◌∙◌, ap, sym}
+use Rattle.std.proofs.Common.{◌∙◌, sym}
 use Rattle.cfs_tracker.specs.Finish.{applied_entry}
 use Rattle.cfs_tracker.proofs.Entries.{missed, position-less, with-at, with-none}
 use Rattle.cfs_tracker.proofs.ending.redo_applied_in.Goals as goal

@@ -1,4 +1,4 @@
-use Rattle.std.proofs.Common.{◌≡◌, ◌∙◌, ap, sym}
+use Rattle.std.proofs.Common.{◌∙◌, sym}
 use Rattle.cfs_tracker.specs.Finish.{more_entry}
 use Rattle.cfs_tracker.proofs.Entries.{missed, position-less, with-at, with-none}
 use Rattle.cfs_tracker.proofs.ending.redo_more_in.Goals as goal

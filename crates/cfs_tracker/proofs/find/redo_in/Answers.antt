@@ -1,4 +1,4 @@
-use Rattle.std.proofs.Common.{◌≡◌, ◌∙◌, ap, sym, Some}
+use Rattle.std.proofs.Common.{◌∙◌, ap, sym, Some}
 use Rattle.std.specs.Prelude.{option_map}
 use Rattle.cfs_tracker.specs.View.{doing as doing_now}
 use Rattle.cfs_tracker.proofs.Entries.{hit, missed, position-less, with-at, with-none}

@@ -1,6 +1,5 @@
 use Rattle.std.proofs.Common.{◌≡◌, ◌∙◌, ◌++◌, ◌∷◌, [], ap, refl}
 use Rattle.cfs_tracker.specs.Admit.{pending}
-use Rattle.cfs_tracker.specs.declared.pending.Pending.{Pending}
 use Rattle.cfs_tracker.specs.View.{view_of}
 use Rattle.cfs_tracker.proofs.Putting.{same-view}
 use Rattle.cfs_tracker.proofs.Admissions.{follows-admitted}

@@ -1,8 +1,7 @@
-use Rattle.std.proofs.Common.{◌≡◌, ◌∙◌, ap, refl, sym, true, subst, List, Option}
-use Rattle.cfs_tracker.specs.declared.cell.Cell.{Cell}
-use Rattle.cfs_tracker.specs.Dispatch.{is_kept, tile_at}
+use Rattle.std.proofs.Common.{◌∙◌, refl}
 use Rattle.cfs_tracker.specs.View.{view_of}
 use Rattle.cfs_tracker.proofs.Dispatching.{first-kept, follows-dispatched, ready-blocks, second-kept, second-tile, taking}
+use Rattle.cfs_tracker.proofs.HandedOut.{handed-out}
 use Rattle.cfs_tracker.proofs.Putting.{same-view}
 use Rattle.cfs_tracker.proofs.tracker.Tracker.dispatch.Goals as goal
 
@@ -30,3 +29,15 @@ returns-clause-follows g c = λ core follows.
     let takes = follows-dispatched view core c.args.place c.args.first c.args.second (taking view c.args.place c.args.first c.args.second c.requires.ready)
     (ready-blocks view c.args.place c.args.first c.args.second c.requires.ready c.requires.still) follows in
     (takes.0, same-view (rw (c.redo.ensures.items, c.lend-two.ensures.items, c.lend-one.ensures.items) refl) takes.1)
+
+pub returns-clause-ascend : goal.returns-clause-ascend
+returns-clause-ascend g c =
+    (ready-blocks (view_of c.args.self.now) c.args.place c.args.first c.args.second c.requires.ready c.requires.still).apart
+
+pub returns-clause-out : goal.returns-clause-out
+returns-clause-out g c =
+    let view = view_of c.args.self.now in
+    let blocks = ready-blocks view c.args.place c.args.first c.args.second c.requires.ready c.requires.still in
+    rw (c.redo.ensures.items, c.lend-one.ensures.tile, returns-clause-second g c)
+    (handed-out view c.args.place c.args.first c.args.second
+    (taking view c.args.place c.args.first c.args.second c.requires.ready) blocks)

@@ -1,5 +1,5 @@
-use Rattle.std.proofs.Common.{◌∙◌, ap, refl}
-use Rattle.cfs_tracker.specs.View.{doing, view_of, with_entry}
+use Rattle.std.proofs.Common.{refl}
+use Rattle.cfs_tracker.specs.View.{view_of}
 use Rattle.cfs_tracker.proofs.Putting.{same-view}
 use Rattle.cfs_tracker.proofs.Marking.{follows-marked}
 use Rattle.cfs_tracker.proofs.tracker.Tracker.marked.Goals as goal

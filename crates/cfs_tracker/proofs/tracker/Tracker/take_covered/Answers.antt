@@ -1,6 +1,4 @@
-use Rattle.std.proofs.Common.{◌≡◌, ◌∙◌, ap, arith, sym, Option, None, Some}
-use Rattle.cfs_tracker.specs.declared.doing.Doing.TheVariants.{Covered}
-use Rattle.cfs_tracker.specs.declared.pending.Pending.{Pending}
+use Rattle.std.proofs.Common.{◌≡◌, arith, Some}
 use Rattle.cfs_tracker.specs.Skip.{covered_slots}
 use Rattle.cfs_tracker.specs.View.{entry_at, view_of}
 use Rattle.cfs_tracker.proofs.Putting.{entries-are}
