@@ -9,4 +9,5 @@ pub mod Openings
 pub mod Readies
 pub mod Quiet
 pub mod Composing
+pub mod Dispatches
 pub mod States

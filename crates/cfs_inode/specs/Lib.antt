@@ -4,3 +4,4 @@ pub mod Makes
 pub mod Ends
 pub mod Opening
 pub mod Reads
+pub mod Jobs
