@@ -1,0 +1,13 @@
+pub mod Tells
+pub mod Goods
+pub mod Resting
+pub mod Replacing
+pub mod Closings
+pub mod Skips
+pub mod Settlings
+pub mod Openings
+pub mod Readies
+pub mod Quiet
+pub mod Composing
+pub mod Dispatches
+pub mod States

@@ -1,0 +1,7 @@
+pub mod View
+pub mod Stands
+pub mod Makes
+pub mod Ends
+pub mod Opening
+pub mod Reads
+pub mod Jobs

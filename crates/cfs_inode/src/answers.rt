@@ -1,0 +1,12 @@
+//! What calls that close a gate answer.
+
+/// What a call that is to close a gate answers. `S` is the slots of the request.
+#[derive(Drop)]
+pub enum CloseAnswer<S> {
+    /// The gate is closed: these are the slots of the request, the head first.
+    Closed(S),
+    /// There is none to be closed.
+    Nothing,
+    /// A device fault: the gate may be open or closed.
+    Failed,
+}
