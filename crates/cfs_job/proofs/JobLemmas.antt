@@ -1,5 +1,5 @@
 -- A job as its steps leave it.
-use Rattle.std.proofs.Common.{ℕ, ◌+◌, ◌-◌, ◌≡◌, ◌&&◌, Bool, true, false, not, nat_lt, if◌then◌else◌, Option, Some, None, Result, Ok, Err, OnOk, OnErr, List, [], ◌∷◌, length, is_ok, refl, sym, ap, subst, arith}
+use Rattle.std.proofs.Common.{ℕ, ◌+◌, ◌-◌, ◌≡◌, ◌&&◌, Bool, true, false, not, nat_lt, if◌then◌else◌, Option, Some, None, Result, Ok, Err, OnOk, OnErr, List, [], ◌∷◌, length, is_ok, is_some, refl, sym, ap, subst, arith}
 use Rattle.std.proofs.Props.{props}
 use Rattle.cfs_file.specs.declared.span.Span.{Span}
 use Rattle.cfs_core.proofs.Legal.{both}
@@ -13,7 +13,7 @@ use Rattle.cfs_job.specs.Tiles.{lent_in, tile_in, tile_of}
 use Rattle.cfs_job.proofs.OpLemmas.{ranged_from_same}
 use Rattle.cfs_job.specs.declared.turn.Turn.{Turn}
 use Rattle.cfs_job.specs.declared.turn.Turn.TheVariants as turns
-use Rattle.cfs_job.specs.Stands.{IsDurable, IsOpen, IsOpenFor, IsSound, IsSpanOf, Keeps, ReadsAsNoted, StaysOutside, TileKeeps, are_touched, is_touched, is_touched_by}
+use Rattle.cfs_job.specs.Stands.{IsDurable, IsOpen, IsOpenFor, IsSound, IsSpanFor, IsSpanOf, Keeps, ReadsAsNoted, StaysOutside, TileKeeps, are_touched, is_touched, is_touched_by}
 use Rattle.cfs_job.specs.Steps.{Flushes, Writes, is_unflushed, is_unwritten, next_turn, one_if, steps_left}
 use Rattle.cfs_job.specs.Views.{JobView, TileView, anew_tile, payload_seen}
 use Rattle.cfs_job.proofs.KeepLemmas.{flush_keeps, write_keeps}
@@ -113,6 +113,17 @@ same_second : (s : Span) (was now : TileView) (first : Option TileView) → now.
 same_second s was now None at h = h
 same_second s was now (Some tile) at h = subst (λ n. (is_touched s tile.at && (is_touched s n && nat_lt tile.at n)) ≡ true) (sym at) h
 
+-- and the positions of its request
+
+has_first : (s : Span) (was : TileView) (first : Option TileView) →
+    are_touched s first (Some was) ≡ true → is_some first ≡ true
+has_first s was None touched = cc
+has_first s was (Some tile) touched = refl
+
+spans_second : {slots : List (Seen WordStep)} {place : ℕ} {s : Span} (was : TileView)
+    (first : Option TileView) → IsSound slots place s first (Some was) → IsSpanOf s slots
+spans_second {slots} {place} {s} was first h = h.spans (has_first s was first h.touched)
+
 pub sound_first : {slots : List (Seen WordStep)} {place : ℕ} {s : Span} {second : Option TileView} (was now : TileView) → now.at ≡ was.at
     → (TileKeeps (payload_seen slots) s was → TileKeeps (payload_seen slots) s now) → IsSound slots place s (Some was) second → IsSound slots place s (Some now) second
 sound_first {slots} {place} {s} {second} was now at keeps h = record {
@@ -139,13 +150,13 @@ pub sound_write_first : {T E : Type 0} {obeys_slots obeys_block keeps : Bool} {s
     {asked_old asked_new : List Asked} (was now : TileView) (result : Result T E) → length (content_of was.seen).bytes ≡ 4096
     → Writes obeys_slots obeys_block keeps slots s result asked_old was asked_new now → IsSound slots place s (Some was) second → IsSound slots place s (Some now) second
 sound_write_first {T} {E} {obeys_slots} {obeys_block} {keeps} {slots} {place} {s} {second} was now result full w h =
-    sound_first was now (ap (λ (t : TileView). t.at) w.noted) (write_keeps was now result h.spans (touched_first second h) full w) h
+    sound_first was now (ap (λ (t : TileView). t.at) w.noted) (write_keeps was now result (h.spans refl) (touched_first second h) full w) h
 
 pub sound_write_second : {T E : Type 0} {obeys_slots obeys_block keeps : Bool} {slots : List (Seen WordStep)} {place : ℕ} {s : Span} {first : Option TileView}
     {asked_old asked_new : List Asked} (was now : TileView) (result : Result T E) → length (content_of was.seen).bytes ≡ 4096
     → Writes obeys_slots obeys_block keeps slots s result asked_old was asked_new now → IsSound slots place s first (Some was) → IsSound slots place s first (Some now)
 sound_write_second {T} {E} {obeys_slots} {obeys_block} {keeps} {slots} {place} {s} {first} was now result full w h =
-    sound_second was now (ap (λ (t : TileView). t.at) w.noted) (write_keeps was now result h.spans (touched_second first h) full w) h
+    sound_second was now (ap (λ (t : TileView). t.at) w.noted) (write_keeps was now result (spans_second was first h) (touched_second first h) full w) h
 
 pub sound_flush_first : {T E : Type 0} {obeys_block keeps : Bool} {slots : List (Seen WordStep)} {place : ℕ} {s : Span} {second : Option TileView}
     {asked_old asked_new : List Asked} (was now : TileView) (result : Result T E) → was.written ≡ true
@@ -208,11 +219,17 @@ opened_new : {B : Type 0} (seen : B → Seen BlockStep) (number : B → ℕ) (sl
 opened_new seen number slots place None h = tt
 opened_new seen number slots place (Some lent) h = h
 
+spans_new : {B : Type 0} (seen : B → Seen BlockStep) (number : B → ℕ)
+    (slots : List (Seen WordStep)) (s : Span) (lent : Option (Lent B)) → IsSpanFor lent s slots →
+    IsSpanFor (tile_of seen number lent) s slots
+spans_new seen number slots s None h = λ some. absurd (cc)
+spans_new seen number slots s (Some lent) h = h
+
 pub sound_new : {B : Type 0} (seen : B → Seen BlockStep) (number : B → ℕ) (slots : List (Seen WordStep)) (place : ℕ) (s : Span) (first second : Option (Lent B))
-    → IsSpanOf s slots → are_touched s (tile_of seen number first) (tile_of seen number second) ≡ true → IsOpenFor first slots place
+    → IsSpanFor first s slots → are_touched s (tile_of seen number first) (tile_of seen number second) ≡ true → IsOpenFor first slots place
     → IsSound slots place s (tile_of seen number first) (tile_of seen number second)
 sound_new seen number slots place s first second spans touched opened = record {
-  spans = spans;
+  spans = spans_new seen number slots s first spans;
   touched = touched;
   opened = opened_new seen number slots place first opened;
   of_first = keeps_new seen number (payload_seen slots) s first;
@@ -230,6 +247,18 @@ pub touched_by_second : {slots : List (Seen WordStep)} {place : ℕ} {s : Span} 
     → IsSound slots place s first second → is_unwritten second ≡ true → is_touched_by s second ≡ true
 touched_by_second None h e = absurd (cc)
 touched_by_second {slots} {place} {s} {first} (Some was) h e = touched_second first h
+
+pub spans_by_first : {slots : List (Seen WordStep)} {place : ℕ} {s : Span}
+    {second : Option TileView} (first : Option TileView) → IsSound slots place s first second →
+    is_unwritten first ≡ true → IsSpanOf s slots
+spans_by_first None h e = absurd (cc)
+spans_by_first (Some was) h e = h.spans refl
+
+pub spans_by_second : {slots : List (Seen WordStep)} {place : ℕ} {s : Span}
+    {first : Option TileView} (second : Option TileView) → IsSound slots place s first second →
+    is_unwritten second ≡ true → IsSpanOf s slots
+spans_by_second None h e = absurd (cc)
+spans_by_second {slots} {place} {s} {first} (Some was) h e = spans_second was first h
 
 -- ---- what stands between the steps
 

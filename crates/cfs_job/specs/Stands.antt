@@ -1,5 +1,5 @@
 -- What a job is given, and what its blocks keep.
-use Rattle.std.specs.Prelude.{ℕ, ◌≡◌, Bool, true, false, ◌&&◌, Option, Some, None, List, [], ◌∷◌, take, drop, nat_lt}
+use Rattle.std.specs.Prelude.{ℕ, ◌≡◌, Bool, true, false, ◌&&◌, Option, Some, None, List, [], ◌∷◌, take, drop, is_some, nat_lt}
 use Rattle.cfs_file.specs.Span.{meets, span}
 use Rattle.cfs_file.specs.declared.sizes.TheConstants.{FILE_BLOCKS}
 use Rattle.cfs_file.specs.declared.span.Span.{Span}
@@ -13,6 +13,10 @@ use Rattle.cfs_job.specs.Views.{TileView, payload_seen, request_seen}
 -- these are the positions of the request in the slots
 abbrev pub IsSpanOf : Span → List (Seen WordStep) → Type 0
 IsSpanOf positions slots = positions ≡ span (request_seen slots) 0
+
+-- they are where there is a block
+abbrev pub IsSpanFor : {A : Type 0} → Option A → Span → List (Seen WordStep) → Type 0
+IsSpanFor block positions slots = is_some block ≡ true → IsSpanOf positions slots
 
 -- a block of a file that has one of the positions
 abbrev pub is_touched : Span → ℕ → Bool
@@ -62,11 +66,11 @@ abbrev pub Keeps : List ℕ → Span → Option TileView → Type 0
 Keeps payload positions None = Unit {0}
 Keeps payload positions (Some tile) = TileKeeps payload positions tile
 
--- The span is that of the request in these slots; the blocks are some of those that it touches;
--- where there is one, the gate is open in every image; and each keeps what is said above.
+-- The blocks are some of those that the span touches; where there is one, the span is that of the
+-- request in these slots, and the gate is open in every image; and each keeps what is said above.
 pub record IsSound (slots : List (Seen WordStep)) (place : ℕ) (positions : Span)
     (first second : Option TileView) : Type 0 where
-  pub spans : IsSpanOf positions slots
+  pub spans : IsSpanFor first positions slots
   pub touched : are_touched positions first second ≡ true
   pub opened : IsOpenFor first slots place
   pub of_first : Keeps (payload_seen slots) positions first

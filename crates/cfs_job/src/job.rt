@@ -2,7 +2,7 @@
 ghost use Rattle.std.specs.Prelude.{◌≡◌, ◌≤◌, ◌-◌, true, false, [], Some, is_ok, map, OnOk, OnErr};
 ghost use Rattle.cfs_slot.specs.Reads.{regions_of};
 ghost use Rattle.cfs_slot.specs.Regions.{place_of};
-ghost use Rattle.cfs_job.specs.Stands.{IsDurable, IsOpenFor, IsSound, IsSpanOf, ReadsAsNoted, StaysOutside, are_touched};
+ghost use Rattle.cfs_job.specs.Stands.{IsDurable, IsOpenFor, IsSound, IsSpanFor, ReadsAsNoted, StaysOutside, are_touched};
 ghost use Rattle.cfs_job.specs.Steps.{one_if};
 ghost use Rattle.cfs_job.specs.Views.{anew, payload_seen};
 ghost use Rattle.cfs_job.specs.Tiles.{tile_in, tile_of};
@@ -59,9 +59,9 @@ impl<R: Region + Drop, B: Block + Drop> Job<R, B> {
         }
     }
 
-    /// A job of a request of the file with this inode number, whose positions are the span. Its
-    /// blocks are some of those that the span touches, the first below the second. Where it has
-    /// one, the request's gate is open whatever a crash leaves.
+    /// A job of a request of the file with this inode number. Its blocks are some of those that the
+    /// span touches, the first below the second. Where it has one, the span has the request's
+    /// positions, and the request's gate is open whatever a crash leaves.
     pub fn new(
         ino: u64,
         request: Live<R>,
@@ -69,7 +69,7 @@ impl<R: Region + Drop, B: Block + Drop> Job<R, B> {
         first: Option<Lent<B>>,
         second: Option<Lent<B>>,
     ) -> Job<R, B>
-        requires spans { IsSpanOf span (map R.seen (regions_of request)) }
+        requires spans { IsSpanFor first span (map R.seen (regions_of request)) }
         requires touched { are_touched span (tile_of B.seen B.number first)
             (tile_of B.seen B.number second) ≡ true }
         requires opened { IsOpenFor first (map R.seen (regions_of request)) (place_of request) }

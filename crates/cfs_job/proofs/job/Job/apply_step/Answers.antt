@@ -8,7 +8,7 @@ use Rattle.cfs_job.specs.Jobs.{job_view}
 use Rattle.cfs_job.specs.Steps.{steps_left}
 use Rattle.cfs_job.specs.Tiles.{tile_in}
 use Rattle.cfs_job.proofs.CauseLemmas.{blocks_alone, nothing_called, with_before, with_behind}
-use Rattle.cfs_job.proofs.JobLemmas.{touched_by_first, touched_by_second, turn_flush_first, turn_flush_second, turn_nothing, turn_write_first, turn_write_second}
+use Rattle.cfs_job.proofs.JobLemmas.{spans_by_first, spans_by_second, touched_by_first, touched_by_second, turn_flush_first, turn_flush_second, turn_nothing, turn_write_first, turn_write_second}
 use Rattle.cfs_job.proofs.MadeLemmas.{Made, full_in}
 use Rattle.cfs_job.proofs.MadeLemmas as made
 use Rattle.cfs_job.proofs.SpanLemmas.{span_prop}
@@ -17,9 +17,10 @@ use Rattle.cfs_job.proofs.job.Job.apply_step.Goals as goal
 pub write_in-requires : goal.write_in-requires
 write_in-requires g c =
     let old = job_view g.R.Region.seen g.B.Block.seen g.B.Block.number c.args.self.now in
-    let spans = ∥∥₁_elim c.args.self.now.sound (span_prop old.span _) (λ k. k.spans) in
     let turn = sym c.in-WriteFirst.is ∙ c.next.ensures in
     let unwritten = turn_write_first old turn in
+    let spans = ∥∥₁_elim c.args.self.now.sound (span_prop old.span _)
+    (λ k. spans_by_first old.first k unwritten) in
     let touched = ∥∥₁_elim c.args.self.now.sound (hlevel props) (λ k. touched_by_first old.first k unwritten) in
     (search rules, (spans, (touched, unwritten)))
 
@@ -68,9 +69,10 @@ returns-in-WriteFirst-clause-cause g c =
 pub write_in-requires-in-WriteSecond : goal.write_in-requires-in-WriteSecond
 write_in-requires-in-WriteSecond g c =
     let old = job_view g.R.Region.seen g.B.Block.seen g.B.Block.number c.args.self.now in
-    let spans = ∥∥₁_elim c.args.self.now.sound (span_prop old.span _) (λ k. k.spans) in
     let turn = sym c.in-WriteSecond.is ∙ c.next.ensures in
     let unwritten = turn_write_second old turn in
+    let spans = ∥∥₁_elim c.args.self.now.sound (span_prop old.span _)
+    (λ k. spans_by_second old.second k unwritten) in
     let touched = ∥∥₁_elim c.args.self.now.sound (hlevel props) (λ k. touched_by_second old.second k unwritten) in
     (search rules, (spans, (touched, unwritten)))
 
