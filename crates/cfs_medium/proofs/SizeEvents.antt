@@ -48,7 +48,7 @@ any_more (k ∷ ks) s last = ap (λ (b : Bool). (s == k) || b) (any_more ks s la
     either false b c = refl
 
 -- a size from before is one still, beside the new one
-still_a_size : (core : Core) (new s : ℕ) → is_size core s ≡ true →
+pub still_a_size : (core : Core) (new s : ℕ) → is_size core s ≡ true →
     ((s == new) || list_any (λ k. s == k) (core.sizes ++ core.size ∷ [])) ≡ true
 still_a_size core new s is = rw (any_more core.sizes s core.size) (reorder (s == new) (s == core.size) (list_any (λ k. s == k) core.sizes) is)
   where
@@ -59,10 +59,10 @@ still_a_size core new s is = rw (any_more core.sizes s core.size) (reorder (s ==
     reorder false false true h = refl
     reorder false false false h = cc
 
-new_is_a_size : (new : ℕ) (others : List ℕ) → ((new == new) || list_any (λ k. new == k) others) ≡ true
+pub new_is_a_size : (new : ℕ) (others : List ℕ) → ((new == new) || list_any (λ k. new == k) others) ≡ true
 new_is_a_size new others = let same : (new == new) ≡ true = grind (arith, nat_tests) in rw same refl
 
-first_set : (words : List ℕ) (word : ℕ) → 0 < length words → get_or (set words 0 word) 0 0 ≡ word
+pub first_set : (words : List ℕ) (word : ℕ) → 0 < length words → get_or (set words 0 word) 0 0 ≡ word
 first_set words word some = get_or-set_same words 0 word 0 some
 
 pub sizes-show : SizesShow
