@@ -287,7 +287,7 @@ second-tile view place first (Some block) are =
 
 -- ---- the core takes the same blocks
 
-find-alike : (one other : ℕ → Bool) (xs : List ℕ) → ((x : ℕ) → one x ≡ other x) →
+pub find-alike : (one other : ℕ → Bool) (xs : List ℕ) → ((x : ℕ) → one x ≡ other x) →
     find one xs ≡ find other xs
 find-alike one other [] same = refl
 find-alike one other (x ∷ xs) same =

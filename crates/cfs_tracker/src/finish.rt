@@ -9,7 +9,7 @@ ghost use Rattle.cfs_core.specs.declared.inode_core.Core.{Core};
 ghost use Rattle.cfs_core.specs.Words.{is_through, track};
 ghost use Rattle.cfs_core.specs.May.{may};
 ghost use Rattle.cfs_core.specs.After.{after};
-ghost use Rattle.cfs_tracker.specs.Finish.{IsOut, applied, applied_at, as_far, blocks_out, is_last, more, put_back, retired, size_after, size_unsure};
+ghost use Rattle.cfs_tracker.specs.Finish.{IsOut, applied, applied_at, as_far, blocks_out, is_last, more, put_back, retired, size_after, size_unsure, span_in};
 ghost use Rattle.cfs_tracker.specs.Follows.{Follows};
 ghost use Rattle.cfs_tracker.specs.View.{KeepsRoom, entry_at, view_of};
 
@@ -18,6 +18,7 @@ use crate::ending::{
 };
 use crate::find::{drop_entry, entry_of, redo};
 use crate::{Doing, Tile, Tracker};
+use cfs_file::Span;
 
 impl<S: Drop, D: Drop, B: Drop> Tracker<S, D, B> {
     /// Whether the entry at a place wants no block behind those of its job, so that it is to be
@@ -45,6 +46,16 @@ impl<S: Drop, D: Drop, B: Drop> Tracker<S, D, B> {
         match entry_of(self.entries.as_slice(), place) {
             Some(entry) => sized(self.stored, entry.span),
             None => self.stored,
+        }
+    }
+
+    /// The positions of the entry at a place.
+    pub fn span(&self, place: u64) -> Span
+        ensures { result ≡ span_in (entry_at (view_of self.now).entries place) }
+    {
+        match entry_of(self.entries.as_slice(), place) {
+            Some(entry) => entry.span,
+            None => Span::Nothing,
         }
     }
 
