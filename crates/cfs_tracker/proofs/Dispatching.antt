@@ -32,7 +32,7 @@ use Rattle.cfs_tracker.specs.declared.step.Step.TheVariants.{NotWaiting, Takes}
 use Rattle.cfs_tracker.specs.View.{TrackerView, doing, entry_at, is_read_at, read_at, with_entry}
 use Rattle.cfs_tracker.specs.Admit.{is_mapped}
 use Rattle.cfs_tracker.specs.Cells.{cell_at}
-use Rattle.cfs_tracker.specs.Dispatch.{ahead, dispatched, first_cell, holder, is_ahead, is_home, is_kept, is_read_ahead, is_still, is_waiting_doing, is_wanted_cell, lend, lent_to, lesser, next_cell, read_place, second_cell, step_at, step_behind, step_of, step_of_blocks, step_with, tile_at, tile_in}
+use Rattle.cfs_tracker.specs.Dispatch.{ahead, are_still, dispatched, first_cell, holder, is_ahead, is_home, is_kept, is_read_ahead, is_still, is_still_at, is_waiting_doing, is_wanted_cell, lend, lent_to, lesser, next_cell, read_place, second_cell, step_at, step_behind, step_of, step_of_blocks, step_with, tile_at, tile_in}
 use Rattle.cfs_tracker.specs.Follows.{CellStands, Follows, IsDoing, IsTrack, block_of, gate_for, is_dead}
 use Rattle.cfs_tracker.specs.Reads.{is_live_doing, place_of}
 use Rattle.cfs_tracker.proofs.Admissions.{mapped-less, mapped-tag}
@@ -121,6 +121,15 @@ still-at (cell ∷ cells) zero h = (both (is_still cell) (list_all (λ c. is_sti
 still-at (cell ∷ cells) (suc block) h =
     still-at cells block (both (is_still cell) (list_all (λ c. is_still c) cells) h).1
 
+pub still-held : {B : Type 0} (cells : List (Cell B)) (held : Option ℕ) →
+    list_all (λ cell. is_still cell) cells ≡ true → is_still_at cells held ≡ true
+still-held cells None h = refl
+still-held cells (Some block) h = still-at cells block h
+
+still-of : {B : Type 0} (cells : List (Cell B)) (held : Option ℕ) (block : ℕ) →
+    is_still_at cells held ≡ true → held ≡ Some block → is_still (cell_at cells block) ≡ true
+still-of cells held block still is = sym (ap (is_still_at cells) is) ∙ still
+
 home-of : {B : Type 0} (cell : Cell B) → is_mapped cell ≡ true → lent_to cell ≡ None →
     is_still cell ≡ true → is_home cell ≡ true
 home-of kinds.Hole mapped free still = cc
@@ -183,7 +192,7 @@ free-at cells held block free is = sym (ap (holder cells) is) ∙ free
 
 pub blocks-of : {S D B : Type 0} (view : TrackerView S D B) (place : ℕ)
     (first second : Option ℕ) → IsTaking view place first second →
-    list_all (λ cell. is_still cell) view.cells ≡ true → AreBlocks view first second
+    are_still view.cells first second ≡ true → AreBlocks view first second
 blocks-of view place first second is still = record {
   first_mapped = one;
   second_mapped = two;
@@ -194,12 +203,17 @@ blocks-of view place first second is still = record {
       omega (arith, more.2);
   first_kept = λ block own.
       home-of (cell_at view.cells block) (one block own)
-      (free-at view.cells first block is.first_free own) (still-at view.cells block still);
+      (free-at view.cells first block is.first_free own)
+      (still-of view.cells first block parts.0 own);
   second_kept = λ block own.
       home-of (cell_at view.cells block) (two block own)
-      (free-at view.cells second block is.second_free own) (still-at view.cells block still);
+      (free-at view.cells second block is.second_free own)
+      (still-of view.cells second block parts.1 own);
 }
   where
+    parts : (is_still_at view.cells first ≡ true) × (is_still_at view.cells second ≡ true)
+    parts = both (is_still_at view.cells first) (is_still_at view.cells second) still
+
     one : (block : ℕ) → first ≡ Some block → is_mapped (cell_at view.cells block) ≡ true
     one block own = first-mapped view.cells is.entry block (is.first_is ∙ own)
 
@@ -587,9 +601,9 @@ follows-dispatched {S} {D} {B} view core place first second is are follows =
           }),
     )
 
--- what `step` said of the two blocks, where no block is in the caller's hands
+-- what `step` said of the two blocks, where neither is in the caller's hands
 pub ready-blocks : {S D B : Type 0} (view : TrackerView S D B) (place : ℕ)
     (first second : Option ℕ) → step_at view place ≡ Takes first second →
-    list_all (λ cell. is_still cell) view.cells ≡ true → AreBlocks view first second
+    are_still view.cells first second ≡ true → AreBlocks view first second
 ready-blocks view place first second ready still =
     blocks-of view place first second (taking view place first second ready) still

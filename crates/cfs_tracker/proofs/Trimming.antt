@@ -1,7 +1,7 @@
 -- A block past the stored size is given up.
-use Rattle.std.proofs.Common.{◌≡◌, arith, ◌*◌, ◌<◌, ◌&&◌, ◌==◌, get_or, not, Option, None, Some, refl, set, true, false, ℕ, Bool, cond, inl, inr, get_or-set_other}
+use Rattle.std.proofs.Common.{◌≡◌, ◌∙◌, ap, arith, ◌*◌, ◌+◌, ◌-◌, ◌<◌, ◌≤◌, ◌&&◌, ◌==◌, get_or, length, not, Option, None, Some, refl, set, true, false, ℕ, Bool, cond, inl, inr, get_or-set_other}
 use Rattle.std.specs.Prelude.{is_none, nat_le, nat_lt}
-use Rattle.std.specs.List.{list_any}
+use Rattle.std.specs.List.{find, list_any, range_with_len}
 use Rattle.std.proofs.lemmas.Bool.{cases_Bool}
 use Rattle.std.proofs.lemmas.Bool.Decides.{nat_tests}
 use Rattle.std.proofs.lemmas.Grind.{get_or-set_at}
@@ -27,11 +27,12 @@ use Rattle.cfs_tracker.specs.View.{TrackerView, entry_at, read_at}
 use Rattle.cfs_tracker.specs.Cells.{cell_at, with_cell}
 use Rattle.cfs_tracker.specs.Follows.{CellStands, DoubtStands, Follows}
 use Rattle.cfs_tracker.specs.Reads.{is_live_doing}
-use Rattle.cfs_tracker.specs.Trim.{is_doubt_in, is_live_in, is_moving, is_past, left_cell}
+use Rattle.cfs_tracker.specs.Trim.{is_doubt_in, is_held, is_live_in, is_moving, is_past, left_cell, next_trim}
 use Rattle.cfs_tracker.proofs.Celling.{follows-cell, is_lent_cell}
 use Rattle.cfs_tracker.proofs.Earlier.{all-none, live-entry, not-lent}
 use Rattle.cfs_tracker.proofs.Entries.{found-not, none-any}
 use Rattle.cfs_tracker.proofs.Tagging.{tags-count}
+use Rattle.cfs_tracker.proofs.Windows.{and-right, find-skip}
 
 moving-tag : {B : Type 0} (cell : Cell B) (flag : Flag) → is_moving cell ≡ true →
     CellStands cell flag → is_off flag ≡ false
@@ -102,6 +103,40 @@ past-parts view block h =
       live = not_true live three.0;
       doubt = not_true doubt three.1;
     }
+
+-- ---- where the search for one begins
+
+-- a block that begins before the stored size is kept
+low-kept : {S D B : Type 0} (view : TrackerView S D B) (block : ℕ) →
+    BLOCK_LEN * block < view.stored → is_past view block ≡ false
+low-kept view block less =
+    let size : nat_le view.stored (BLOCK_LEN * block) ≡ false = grind (arith, nat_tests) in
+    two (nat_lt block FILE_BLOCKS) (nat_le view.stored (BLOCK_LEN * block))
+    (not (list_any (is_live_in (block_span block)) view.entries)
+    && not (is_doubt_in (block_span block) view.doubt)) size
+  where
+    two : (a b c : Bool) → b ≡ false → (a && (b && c)) ≡ false
+    two false b c h = refl
+    two true false c h = refl
+    two true true c h = cc
+
+-- it is enough to search from a block before which all begin before the stored size
+pub trim-from : {S D B : Type 0} (view : TrackerView S D B) (low count : ℕ) →
+    count ≡ length view.cells → low ≤ count →
+    ((block : ℕ) → block < low → BLOCK_LEN * block < view.stored) →
+    next_trim view
+    ≡ find (λ block. is_held (cell_at view.cells block) && is_past view block)
+    (range_with_len low (count - low))
+trim-from view low count many le before =
+    let test : ℕ → Bool = λ block. is_held (cell_at view.cells block) && is_past view block in
+    let from : 0 + low ≡ low = omega arith in
+    rw many
+    (find-skip test 0 (length view.cells) low (omega (arith, le, many)) (λ block less.
+    and-right (is_held (cell_at view.cells block)) (is_past view block)
+    (low-kept view block (before block (omega (arith, less)))))
+    ∙ ap (λ (x : ℕ). find test (range_with_len x (length view.cells - low))) from)
+
+-- ---- it is given up
 
 pub follows-trimmed : {S D B : Type 0} (view : TrackerView S D B) (core : Core) (block : ℕ)
     (left : Option B) → is_past view block ≡ true → is_moving (cell_at view.cells block) ≡ true →

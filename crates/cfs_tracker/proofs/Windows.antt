@@ -33,7 +33,7 @@ find-cut test a (suc n) (suc m) le fails =
     (find-cut test (a + 1) n m (omega arith) (λ k low. fails k (omega arith)))
 
 -- nothing passes before a number
-find-skip : (test : ℕ → Bool) (a n m : ℕ) → m ≤ n →
+pub find-skip : (test : ℕ → Bool) (a n m : ℕ) → m ≤ n →
     ((k : ℕ) → k < a + m → test k ≡ false) →
     find test (range_with_len a n) ≡ find test (range_with_len (a + m) (n - m))
 find-skip test a n zero le fails =
@@ -89,7 +89,7 @@ and-left : (a b : Bool) → a ≡ false → (a && b) ≡ false
 and-left false b h = refl
 and-left true b h = cc
 
-and-right : (a b : Bool) → b ≡ false → (a && b) ≡ false
+pub and-right : (a b : Bool) → b ≡ false → (a && b) ≡ false
 and-right false b h = refl
 and-right true b h = h
 

@@ -139,6 +139,15 @@ abbrev pub is_still : {B : Type 0} → Cell B → Bool
 is_still (kinds.Moving is_sure) = if is_sure then false else true
 is_still _ = true
 
+-- there is no such block, or it is not
+abbrev pub is_still_at : {B : Type 0} → List (Cell B) → Option ℕ → Bool
+is_still_at cells None = true
+is_still_at cells (Some block) = is_still (cell_at cells block)
+
+-- neither of a job's two blocks is
+abbrev pub are_still : {B : Type 0} → List (Cell B) → Option ℕ → Option ℕ → Bool
+are_still cells first second = is_still_at cells first && is_still_at cells second
+
 abbrev pub is_home : {B : Type 0} → Cell B → Bool
 is_home (kinds.Home home) = true
 is_home _ = false

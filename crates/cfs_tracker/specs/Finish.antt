@@ -91,6 +91,14 @@ brought first second view = record view { cells = home second (home first view.c
 
 -- ---- what becomes of the entry
 
+-- it waits again, and has done these blocks; it is applied, if it was or is to be now
+abbrev pub again_entry : {S : Type 0} → S → Bool → Option ℕ → Option ℕ → Pending S → Pending S
+again_entry slots applied first second entry = record entry {
+  applied = applied || entry.applied;
+  done = last_number entry.done first second;
+  doing = Waiting slots;
+}
+
 -- all is written, the size word is set and the gate closed
 abbrev pub retired : {S D B : Type 0} → ℕ → Option (Tile B) → Option (Tile B) →
     TrackerView S D B → TrackerView S D B

@@ -8,7 +8,7 @@ ghost use Rattle.cfs_core.specs.declared.inode_core.Core.{Core};
 ghost use Rattle.cfs_core.specs.May.{may};
 ghost use Rattle.cfs_core.specs.After.{after};
 ghost use Rattle.cfs_tracker.specs.declared.step.Step.TheVariants.{Takes as takes};
-ghost use Rattle.cfs_tracker.specs.Dispatch.{ahead, dispatched, first_cell, holder, is_still, lesser, second_cell, step_at, step_behind, step_of, step_of_blocks, tile_at, waiting_slots};
+ghost use Rattle.cfs_tracker.specs.Dispatch.{ahead, are_still, dispatched, first_cell, holder, is_still, lesser, second_cell, step_at, step_behind, step_of, step_of_blocks, tile_at, waiting_slots};
 ghost use Rattle.cfs_tracker.specs.Finish.{IsOut};
 ghost use Rattle.cfs_tracker.specs.Follows.{Follows};
 ghost use Rattle.cfs_tracker.specs.View.{KeepsRoom, entry_at, view_of};
@@ -92,17 +92,21 @@ impl<S: Drop, D: Drop, B: Drop> Tracker<S, D, B> {
         }
     }
 
-    /// Whether no block whose tag is set is in the caller's hands.
-    pub fn is_still(&self) -> bool
-        ensures { result ≡ list_all (λ cell. is_still cell) (view_of self.now).cells }
+    /// Whether neither of these two blocks of the file is in the caller's hands with its tag set.
+    /// It looks at these two alone; where no block at all is so (`none`), it holds.
+    pub fn are_still(&self, first: Option<u64>, second: Option<u64>) -> bool
+        ensures blocks { result ≡ are_still (view_of self.now).cells first second }
+        ensures none { list_all (λ cell. is_still cell) (view_of self.now).cells ≡ true →
+            result ≡ true }
     {
-        self.cells.iter().all(|cell| is_still(cell))
+        let cells = self.cells.as_slice();
+        is_still(cells, first) && is_still(cells, second)
     }
 
     /// A job takes the change at a place, as `step` says, with these blocks.
     pub fn dispatch(&mut self, place: u64, first: Option<u64>, second: Option<u64>) -> Taken<S, B>
         requires ready { step_at (view_of self.old) place ≡ takes first second }
-        requires still { list_all (λ cell. is_still cell) (view_of self.old).cells ≡ true }
+        requires still { are_still (view_of self.old).cells first second ≡ true }
         ensures slots { waiting_slots (entry_at (view_of self.old).entries place) ≡
             Some result.slots }
         ensures first { result.first ≡ tile_at (view_of self.old).cells first }

@@ -2,7 +2,7 @@
 
 ghost use Rattle.std.specs.Prelude.{◌≡◌, ◌↔◌, IsTrue, Some, is_none, option_copied, vec_capacity, vec_len};
 ghost use Rattle.cfs_core.specs.Words.{sized};
-ghost use Rattle.cfs_tracker.specs.Finish.{applied_entry, blocks_in, blocks_out, done_with, home, is_last_entry, is_last_of, last_number, more_entry, number_of};
+ghost use Rattle.cfs_tracker.specs.Finish.{again_entry, blocks_in, blocks_out, done_with, home, is_last_entry, is_last_of, last_number, number_of};
 ghost use Rattle.cfs_tracker.specs.View.{with_entry};
 
 use crate::find::position_of;
@@ -85,8 +85,20 @@ fn is_doing_with<S>(doing: &Doing<S>, one: Option<u64>, two: Option<u64>) -> boo
     }
 }
 
-/// Puts a block of a job back.
-pub(crate) fn bring_home<B: Drop>(cells: &mut Vec<Cell<B>>, tile: Option<Tile<B>>)
+/// Puts both blocks of a job back.
+pub(crate) fn bring_both<B: Drop>(
+    cells: &mut Vec<Cell<B>>,
+    first: Option<Tile<B>>,
+    second: Option<Tile<B>>,
+)
+    ensures items { cells.new.items ≡ home second (home first cells.old.items) }
+    ensures long { vec_len cells.new ≡ vec_len cells.old }
+{
+    bring_home(cells, first);
+    bring_home(cells, second);
+}
+
+fn bring_home<B: Drop>(cells: &mut Vec<Cell<B>>, tile: Option<Tile<B>>)
     ensures items { cells.new.items ≡ home tile cells.old.items }
     ensures long { vec_len cells.new ≡ vec_len cells.old }
 {
@@ -98,73 +110,48 @@ pub(crate) fn bring_home<B: Drop>(cells: &mut Vec<Cell<B>>, tile: Option<Tile<B>
     }
 }
 
-/// The first entry of a place waits again, and has done the blocks.
-pub(crate) fn redo_more<S: Drop, B>(
+/// The first entry of a place waits again, and has done these blocks; it is applied, if it was or
+/// is to be now.
+pub(crate) fn wait_again<S: Drop>(
     entries: &mut Vec<Pending<S>>,
     place: u64,
     slots: S,
-    first: &Option<Tile<B>>,
-    second: &Option<Tile<B>>,
+    applied: bool,
+    done: (Option<u64>, Option<u64>),
 )
     ensures items { entries.new.items ≡
-        with_entry place (more_entry slots (number_of first.now) (number_of second.now))
-        entries.old.items }
+        with_entry place (again_entry slots applied done.0 done.1) entries.old.items }
     ensures room { vec_capacity entries.new ≡ vec_capacity entries.old }
     ensures long { vec_len entries.new ≡ vec_len entries.old }
 {
-    redo_more_in(
-        entries.as_mut_slice(),
-        place,
-        slots,
-        number_of(first),
-        number_of(second),
-    );
+    wait_again_in(entries.as_mut_slice(), place, slots, applied, done);
 }
 
-fn redo_more_in<S: Drop>(
+fn wait_again_in<S: Drop>(
     entries: &mut [Pending<S>],
     place: u64,
     slots: S,
-    first: Option<u64>,
-    second: Option<u64>,
+    applied: bool,
+    done: (Option<u64>, Option<u64>),
 )
-    ensures { entries.new ≡ with_entry place (more_entry slots first second) entries.old }
+    ensures { entries.new ≡
+        with_entry place (again_entry slots applied done.0 done.1) entries.old }
 {
     let Some(at) = position_of(entries, place) else {
         return;
     };
-    redo_entry(&mut entries[at], slots, first, second);
+    put_again(&mut entries[at], slots, applied, done);
 }
 
-/// The first entry of a place waits again, and is applied.
-pub(crate) fn redo_applied<S: Drop>(entries: &mut Vec<Pending<S>>, place: u64, slots: S)
-    ensures items { entries.new.items ≡
-        with_entry place (applied_entry slots) entries.old.items }
-    ensures room { vec_capacity entries.new ≡ vec_capacity entries.old }
-    ensures long { vec_len entries.new ≡ vec_len entries.old }
+fn put_again<S: Drop>(
+    entry: &mut Pending<S>,
+    slots: S,
+    applied: bool,
+    done: (Option<u64>, Option<u64>),
+)
+    ensures { entry.new ≡ again_entry slots applied done.0 done.1 entry.old }
 {
-    redo_applied_in(entries.as_mut_slice(), place, slots);
-}
-
-fn redo_applied_in<S: Drop>(entries: &mut [Pending<S>], place: u64, slots: S)
-    ensures { entries.new ≡ with_entry place (applied_entry slots) entries.old }
-{
-    let Some(at) = position_of(entries, place) else {
-        return;
-    };
-    apply_entry(&mut entries[at], slots);
-}
-
-fn redo_entry<S: Drop>(entry: &mut Pending<S>, slots: S, first: Option<u64>, second: Option<u64>)
-    ensures { entry.new ≡ more_entry slots first second entry.old }
-{
-    entry.done = last_number(entry.done, first, second);
-    entry.doing = Doing::Waiting(slots);
-}
-
-fn apply_entry<S: Drop>(entry: &mut Pending<S>, slots: S)
-    ensures { entry.new ≡ applied_entry slots entry.old }
-{
-    entry.applied = true;
+    entry.applied = applied || entry.applied;
+    entry.done = last_number(entry.done, done.0, done.1);
     entry.doing = Doing::Waiting(slots);
 }

@@ -13,9 +13,7 @@ ghost use Rattle.cfs_tracker.specs.Finish.{IsOut, applied, applied_at, as_far, b
 ghost use Rattle.cfs_tracker.specs.Follows.{Follows};
 ghost use Rattle.cfs_tracker.specs.View.{KeepsRoom, entry_at, view_of};
 
-use crate::ending::{
-    bring_home, is_last_of, is_out_with, number_of, redo_applied, redo_more, sized,
-};
+use crate::ending::{bring_both, is_last_of, is_out_with, number_of, sized, wait_again};
 use crate::find::{drop_entry, entry_of, redo};
 use crate::{Doing, Tile, Tracker};
 use cfs_file::Span;
@@ -89,8 +87,7 @@ impl<S: Drop, D: Drop, B: Drop> Tracker<S, D, B> {
     {
         self.stored = self.size_after(place);
         self.is_sure = true;
-        bring_home(&mut self.cells, first);
-        bring_home(&mut self.cells, second);
+        bring_both(&mut self.cells, first, second);
         drop_entry(&mut self.entries, place);
     }
 
@@ -104,9 +101,9 @@ impl<S: Drop, D: Drop, B: Drop> Tracker<S, D, B> {
             (may core (events.Finish place ends.More) ≡ true)
             × Follows (view_of self.new) (after core (events.Finish place ends.More)) }
     {
-        redo_more(&mut self.entries, place, slots, &first, &second);
-        bring_home(&mut self.cells, first);
-        bring_home(&mut self.cells, second);
+        let done = (number_of(&first), number_of(&second));
+        wait_again(&mut self.entries, place, slots, false, done);
+        bring_both(&mut self.cells, first, second);
     }
 
     /// The job at a place is put back, however far it came, or the size word could not be written
@@ -127,8 +124,7 @@ impl<S: Drop, D: Drop, B: Drop> Tracker<S, D, B> {
             × Follows (view_of self.new) (after core (events.Finish place end)) }
     {
         redo(&mut self.entries, place, Doing::Waiting(slots));
-        bring_home(&mut self.cells, first);
-        bring_home(&mut self.cells, second);
+        bring_both(&mut self.cells, first, second);
     }
 
     /// The size word was written for the entry at a place, and may have its old value or the new
@@ -150,9 +146,7 @@ impl<S: Drop, D: Drop, B: Drop> Tracker<S, D, B> {
     {
         self.stored = self.size_after(place);
         self.is_sure = false;
-        redo(&mut self.entries, place, Doing::Waiting(slots));
-        bring_home(&mut self.cells, first);
-        bring_home(&mut self.cells, second);
+        self.put_back(place, slots, first, second);
     }
 
     /// The size word was set for the entry at a place, whose job was through, and its gate may be
@@ -170,8 +164,7 @@ impl<S: Drop, D: Drop, B: Drop> Tracker<S, D, B> {
     {
         self.stored = self.size_after(place);
         self.is_sure = true;
-        redo_applied(&mut self.entries, place, slots);
-        bring_home(&mut self.cells, first);
-        bring_home(&mut self.cells, second);
+        wait_again(&mut self.entries, place, slots, true, (None, None));
+        bring_both(&mut self.cells, first, second);
     }
 }

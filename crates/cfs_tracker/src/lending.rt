@@ -6,7 +6,7 @@ ghost use Rattle.cfs_file.specs.declared.sizes.TheConstants.{FILE_BLOCKS};
 ghost use Rattle.cfs_file.specs.Span.{meets};
 ghost use Rattle.cfs_core.specs.Words.{block_span};
 ghost use Rattle.cfs_core.specs.Jobs.{is_above};
-ghost use Rattle.cfs_tracker.specs.Dispatch.{holder, is_kept, is_still, is_wanted_cell, lend, next_cell, tile_at};
+ghost use Rattle.cfs_tracker.specs.Dispatch.{holder, is_kept, is_still_at, is_wanted_cell, lend, next_cell, tile_at};
 
 use crate::cells::is_mapped;
 use crate::{Cell, Tile};
@@ -123,8 +123,14 @@ pub(crate) fn lend<B: Drop>(
 }
 
 /// The block is not in the caller's hands with its tag set.
-pub(crate) fn is_still<B>(cell: &Cell<B>) -> bool
-    ensures { result ≡ is_still cell.now }
+pub(crate) fn is_still<B>(cells: &[Cell<B>], block: Option<u64>) -> bool
+    ensures { result ≡ is_still_at cells.now block }
 {
-    !matches!(cell, Cell::Moving(true))
+    let Some(block) = block else {
+        return true;
+    };
+    match cells.get(block as usize) {
+        Some(Cell::Moving(is_sure)) => !*is_sure,
+        Some(Cell::Hole | Cell::Home(_) | Cell::Unsure(_) | Cell::Lent(_)) | None => true,
+    }
 }

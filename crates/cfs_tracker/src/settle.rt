@@ -1,6 +1,6 @@
 //! The request in doubt is closed.
 
-ghost use Rattle.std.specs.Prelude.{◌≡◌, true, IfNone, OnSome, is_some};
+ghost use Rattle.std.specs.Prelude.{◌≡◌, None, true, is_some};
 ghost use Rattle.cfs_core.specs.declared.event.Event.TheVariants as events;
 ghost use Rattle.cfs_core.specs.declared.inode_core.Core.{Core};
 ghost use Rattle.cfs_core.specs.May.{may};
@@ -36,7 +36,8 @@ impl<S: Drop, D: Drop, B: Drop> Tracker<S, D, B> {
 
     /// The slots that `take_doubt` gave could not be closed, and come back.
     pub fn put_doubt(&mut self, slots: D)
-        requires { is_some (view_of self.old).doubt ≡ true }
+        requires doubt { is_some (view_of self.old).doubt ≡ true }
+        requires out { doubt_slots (view_of self.old).doubt ≡ None }
         ensures view { view_of self.new ≡ unsettled slots (view_of self.old) }
         ensures room { KeepsRoom self.old self.new }
         ensures follows { (core : Core) → Follows (view_of self.old) core →
@@ -49,7 +50,8 @@ impl<S: Drop, D: Drop, B: Drop> Tracker<S, D, B> {
 
     /// The slots that `take_doubt` gave were closed.
     pub fn settled(&mut self)
-        requires { is_some (view_of self.old).doubt ≡ true }
+        requires doubt { is_some (view_of self.old).doubt ≡ true }
+        requires out { doubt_slots (view_of self.old).doubt ≡ None }
         ensures view { view_of self.new ≡ settled (view_of self.old) }
         ensures room { KeepsRoom self.old self.new }
         ensures follows { (core : Core) → Follows (view_of self.old) core →

@@ -1,7 +1,8 @@
 //! Blocks past the stored size are given up.
 
-ghost use Rattle.std.specs.Prelude.{◌≡◌, ◌&&◌, IfSome, find, is_none, length, true};
+ghost use Rattle.std.specs.Prelude.{◌≡◌, ◌*◌, ◌-◌, ◌<◌, ◌≤◌, ◌&&◌, ℕ, IfSome, find, is_none, length, true};
 ghost use Rattle.std.specs.List.{list_any, range_with_len};
+ghost use Rattle.cfs_file.specs.declared.sizes.TheConstants.{BLOCK_LEN};
 ghost use Rattle.cfs_core.specs.declared.event.Event.TheVariants as events;
 ghost use Rattle.cfs_core.specs.declared.inode_core.Core.{Core};
 ghost use Rattle.cfs_core.specs.May.{may};
@@ -47,16 +48,36 @@ fn left_cell<B>(left: Option<B>) -> Cell<B>
     }
 }
 
+/// The first block that begins at or past a size in bytes, or the count where it is less.
+fn first_past(size: u64, count: u64) -> u64
+    ensures inside { result ≤ count }
+    ensures before { (block : ℕ) → block < result → BLOCK_LEN * block < size }
+{
+    size.div_ceil(BLOCK_LEN).min(count)
+}
+
 impl<S: Drop, D: Drop, B: Drop> Tracker<S, D, B> {
     /// The lowest block of the file that is to be given up: its tag is set or unsure, no job has
     /// it, it begins at or past the stored size, and no live entry and no request in doubt has a
     /// position of it. None exactly where there is none.
+    ///
+    /// It looks at the blocks from the stored size to the answer, and for each that is held at what
+    /// is pending, to the first live entry with a position of it.
     pub fn next_trim(&self) -> Option<u64>
         ensures block { result ≡ next_trim (view_of self.now) }
         ensures past { IfSome result (λ block. is_past (view_of self.now) block ≡ true) }
     {
-        (0..self.cells.len() as u64).find(|block| is_held(self.cells.as_slice(), *block)
-            && self.is_past(*block))
+        let count = self.cells.len() as u64;
+        self.find_trim(first_past(self.stored, count), count)
+    }
+
+    fn find_trim(&self, low: u64, high: u64) -> Option<u64>
+        ensures block { result ≡
+            find (λ block. is_held (cell_at (view_of self.now).cells block)
+            && is_past (view_of self.now) block) (range_with_len low (high - low)) }
+        ensures past { IfSome result (λ block. is_past (view_of self.now) block ≡ true) }
+    {
+        (low..high).find(|block| is_held(self.cells.as_slice(), *block) && self.is_past(*block))
     }
 
     /// Whether the block is one of the file's and begins at or past the stored size, and no live

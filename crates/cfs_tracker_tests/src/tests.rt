@@ -44,11 +44,14 @@ fn admit_read(tracker: &mut Plain, offset: u64, count: u64) -> Result<(u64, Span
 
 /// Dispatches a place; none where no job may take it.
 fn dispatch(tracker: &mut Plain, place: u64) -> Option<Taken<u32, u32>> {
-    if !tracker.is_still() {
-        return None;
-    }
     match tracker.step(place) {
-        Step::Takes { first, second } => Some(tracker.dispatch(place, first, second)),
+        Step::Takes { first, second } => {
+            if tracker.are_still(first, second) {
+                Some(tracker.dispatch(place, first, second))
+            } else {
+                None
+            }
+        }
         Step::NotWaiting | Step::NotYet(_) => None,
     }
 }

@@ -4,4 +4,4 @@ use Rattle.cfs_tracker.proofs.tracker.Tracker.settled.Goals as goal
 
 pub returns-clause-follows : goal.returns-clause-follows
 returns-clause-follows g c = λ core follows.
-    follows-settled (view_of c.args.self.now) core c.requires follows
+    follows-settled (view_of c.args.self.now) core c.requires.doubt follows
