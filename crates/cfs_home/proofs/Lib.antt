@@ -1,0 +1,4 @@
+pub mod Parts
+pub mod Slots
+pub mod Blocks
+pub mod Disks

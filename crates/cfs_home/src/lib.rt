@@ -1,0 +1,57 @@
+//! Why a mount may stop anywhere, as contracts of functions that do nothing.
+//!
+//! `specs/Parts.antt` has one file of an image, position by position, and the steps by which a
+//! mount brings a live entry home; `specs/Disks.antt` has all files of an image, and each step of a
+//! mount on its devices. `specs/Laws.antt` states what the steps keep.
+#![tactic(auto)]
+
+ghost use Rattle.cfs_home.specs.Laws.{ClosesKeepAll, DeadSlotsMayClose, OtherBlocksMayChange, OtherSizesMayBeSet, PartsAreKept, ShutSlotsLeaveOthers, SizesKeepAll, StaysGoOn, WritesKeepAll};
+
+/// Bytes of the lowest live entry may change, the size word may be set for it, and it may be closed
+/// once it is home: each step keeps the file that a mount finds.
+pub fn parts_are_kept()
+    ensures { PartsAreKept }
+{}
+
+/// A slot whose gate is closed is no live entry any more, and all others are what they were, also
+/// those that have it as a tail.
+pub fn shut_slots_leave_others()
+    ensures { ShutSlotsLeaveOthers }
+{}
+
+/// For the lowest live entry of a file its blocks may be written and flushed, in any order, torn or
+/// not: a mount finds the same files.
+pub fn writes_keep_all()
+    ensures { WritesKeepAll }
+{}
+
+/// And its size word may be set.
+pub fn sizes_keep_all()
+    ensures { SizesKeepAll }
+{}
+
+/// Once it is home its gate may be closed.
+pub fn closes_keep_all()
+    ensures { ClosesKeepAll }
+{}
+
+/// A slot that is no live entry of a file may be closed.
+pub fn dead_slots_may_close()
+    ensures { DeadSlotsMayClose }
+{}
+
+/// The size word of a record that is no file's may be set.
+pub fn other_sizes_may_be_set()
+    ensures { OtherSizesMayBeSet }
+{}
+
+/// A block that is tagged for no file may come to hold anything that is tagged for none.
+pub fn other_blocks_may_change()
+    ensures { OtherBlocksMayChange }
+{}
+
+/// Steps may follow each other: where each finds the files of the one before, the last finds those
+/// of the first.
+pub fn stays_go_on()
+    ensures { StaysGoOn }
+{}
