@@ -18,7 +18,8 @@ use Rattle.cfs_home.proofs.Slots.{shut-lowest, shut-once, shut-same}
 -- ---- one file
 
 -- what its part keeps, the file keeps
-kept-stays : (file : File) (first second : Disk) → Keeps (part_of file first) (part_of file second) →
+kept-stays : (file : File) (first second : Disk) →
+    Keeps (part_of file first) (part_of file second) →
     IsOnce file.ino second.slots → Stays file first second
 kept-stays file first second kept once =
     record { recovers = kept.recovers; ready = record { sound = kept.sound; once = once } }
@@ -130,7 +131,7 @@ other-dead ino other words differs live = split (is_live other words) refl
     split true is =
         absurd (differs (sym (live-ino other words is) ∙ live-ino ino words live))
 
-some-live : (ino : ℕ) (slots : List (List ℕ)) (at : ℕ) (entry : ℕ × Request) →
+pub some-live : (ino : ℕ) (slots : List (List ℕ)) (at : ℕ) (entry : ℕ × Request) →
     entry_at ino slots at ≡ Some entry → is_live ino (get_or slots at []) ≡ true
 some-live ino slots at entry here = split (is_live ino (get_or slots at [])) refl
   where

@@ -140,7 +140,7 @@ agree (entry ∷ entries) first second placed size alike =
 
 -- ---- the stored file
 
-long-stored : (size : ℕ) (byte : ℕ → ℕ) → length (stored_by size byte) ≡ size
+pub long-stored : (size : ℕ) (byte : ℕ → ℕ) → length (stored_by size byte) ≡ size
 long-stored size byte = length-map-range_with_len byte 0 size
 
 stored-within : (size : ℕ) (byte : ℕ → ℕ) (p : ℕ) → p < size →
@@ -152,7 +152,7 @@ stored-past size byte p past =
     get_or_past (stored_by size byte) p 0 (omega (arith, long-stored size byte))
 
 -- where no entry touches, a sound part stores the byte at each position
-stored-beside : (part : Part) (p : ℕ) → IsSound part → (SomeTouches part.entries p → ⊥) →
+pub stored-beside : (part : Part) (p : ℕ) → IsSound part → (SomeTouches part.entries p → ⊥) →
     get_or (stored_by part.size part.byte) p 0 ≡ part.byte p
 stored-beside part p sound out = elim (cases_lt p part.size) [
   | inl within ↦ stored-within part.size part.byte p within
@@ -190,7 +190,8 @@ moved-keeps first second sound fits entries sizes beside past = record {
     }
 
     alike : (p : ℕ) → (SomeTouches first.entries p → ⊥) →
-        get_or (stored_by second.size second.byte) p 0 ≡ get_or (stored_by first.size first.byte) p 0
+        get_or (stored_by second.size second.byte) p 0
+        ≡ get_or (stored_by first.size first.byte) p 0
     alike p out =
         stored-beside second p sound_too
         (subst (λ (es : List (ℕ × Request)). SomeTouches es p → ⊥) (sym entries) out)

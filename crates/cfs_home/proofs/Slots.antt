@@ -86,7 +86,8 @@ entry-with ino words tails = refl
 shut-elsewhere : (ino at : ℕ) (slots : List (List ℕ)) (k : ℕ) → k ≢ at →
     entry_at ino (shut at slots) k ≡ entry_at ino slots k
 shut-elsewhere ino at slots k differs =
-    ap (λ (words : List ℕ). live_entry ino words (tails_of_words (get_or (shut at slots) k []))) head
+    ap (λ (words : List ℕ).
+    live_entry ino words (tails_of_words (get_or (shut at slots) k []))) head
     ∙ (ap (λ (words : List ℕ). live_entry ino (get_or slots k []) (tails_of_words words)) head
     ∙ (entry-with ino (get_or slots k []) (tails_of_words (get_or slots k []))
     ∙ (ap (entry_with ino (get_or slots k [])) areas

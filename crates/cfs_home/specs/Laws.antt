@@ -1,11 +1,16 @@
 -- What the steps of a mount keep.
-use Rattle.std.specs.Prelude.{ℕ, ◌≡◌, ◌==◌, if◌then◌else◌, None, List, [], get_or}
+use Rattle.std.specs.Prelude.{ℕ, ◌+◌, ◌*◌, ◌<◌, ◌≡◌, ◌⊎◌, ◌==◌, if◌then◌else◌, Some, None, List, [], get_or}
 use Rattle.std.specs.List.{Contains}
 use Rattle.cfs_file.specs.declared.request.Request.{Request}
+use Rattle.cfs_file.specs.declared.sizes.TheConstants.{BLOCK_LEN}
+use Rattle.cfs_core.specs.declared.inode_core.Core.{Core}
+use Rattle.cfs_core.specs.Fresh.{IsFresh}
 use Rattle.cfs_block.specs.BlockImages.{Content}
+use Rattle.cfs_slot.specs.Words.{gate_of}
 use Rattle.cfs_medium.specs.Depicts.{content_at}
-use Rattle.cfs_medium.specs.Store.{entry_at}
-use Rattle.cfs_home.specs.Disks.{AllStay, AreFiles, AreReady, ChangesBlock, ClosesSlot, Disk, File, IsDead, IsLowest, IsNoNode, IsNoTag, SetsSize, WritesBlocks, part_of, shut}
+use Rattle.cfs_medium.specs.Store.{block_for, entry_at}
+use Rattle.cfs_home.specs.Disks.{AllStay, AreFiles, AreReady, ChangesBlock, ClosesSlot, Disk, File, IsDead, IsLowest, IsNoNode, IsNoTag, SetsSize, WritesBlocks, part_of, recovered_in, shut, stored_in}
+use Rattle.cfs_home.specs.Ends.{AreDrained, IsClosedOrLive, IsDrained, IsLoaded}
 use Rattle.cfs_home.specs.Parts.{BytesMoved, Closed, IsHome, IsSound, Keeps, Part, SizeMoved, size_after}
 
 -- A mount may stop behind any step for the lowest entry, and another mount finds the same file.
@@ -81,3 +86,43 @@ StaysGoOn =
     (files : List File) (first second third : Disk) → AllStay files first second →
     AreReady files second
     × (AllStay files second third → AllStay files first third)
+
+-- Where no live entry of a file is left, it is stored as a mount would have found it at the start.
+abbrev pub EndsAreStored : Type 0
+EndsAreStored =
+    (files : List File) (file : File) (first last : Disk) → Contains files file →
+    AllStay files first last → IsDrained file last →
+    stored_in file last ≡ recovered_in file first
+
+-- A slot is closed or live once it was closed, and stays so whatever slot is closed.
+abbrev pub ShutSlotsAreSwept : Type 0
+ShutSlotsAreSwept =
+    (files : List File) (at other : ℕ) (slots : List (List ℕ)) →
+    (other ≡ at) ⊎ IsClosedOrLive files (get_or slots other []) →
+    IsClosedOrLive files (get_or (shut at slots) other [])
+
+-- So where no live entry of any file is left, no gate is open.
+abbrev pub EndsAreClosed : Type 0
+EndsAreClosed =
+    (files : List File) (last : Disk) →
+    ((at : ℕ) → IsClosedOrLive files (get_or last.slots at [])) → AreDrained files last →
+    (at : ℕ) → gate_of (get_or last.slots at []) ≡ 0
+
+-- A run may begin with a core that is loaded then. Its base is the file that a mount would have
+-- found at the start.
+abbrev pub LoadedAreFresh : Type 0
+LoadedAreFresh =
+    (files : List File) (file : File) (first last : Disk) (core : Core) → Contains files file →
+    AllStay files first last → IsDrained file last → IsLoaded file last core →
+    IsFresh core × (core.base ≡ recovered_in file first)
+
+-- There is such a core.
+abbrev pub LoadedAreThere : Type 0
+LoadedAreThere = (file : File) (disk : Disk) → (core : Core) × IsLoaded file disk core
+
+-- It has the bytes of each block that is tagged for the file.
+abbrev pub LoadedHaveBlocks : Type 0
+LoadedHaveBlocks =
+    (file : File) (disk : Disk) (core : Core) (block k : ℕ) (content : Content) →
+    IsLoaded file disk core → block_for file.ino block disk.blocks ≡ Some content →
+    k < BLOCK_LEN → get_or content.bytes k 0 ≡ get_or core.bytes (BLOCK_LEN * block + k) 0

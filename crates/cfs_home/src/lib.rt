@@ -2,10 +2,11 @@
 //!
 //! `specs/Parts.antt` has one file of an image, position by position, and the steps by which a
 //! mount brings a live entry home; `specs/Disks.antt` has all files of an image, and each step of a
-//! mount on its devices. `specs/Laws.antt` states what the steps keep.
+//! mount on its devices; `specs/Ends.antt` has where it ends. `specs/Laws.antt` states what the steps
+//! keep.
 #![tactic(auto)]
 
-ghost use Rattle.cfs_home.specs.Laws.{ClosesKeepAll, DeadSlotsMayClose, OtherBlocksMayChange, OtherSizesMayBeSet, PartsAreKept, ShutSlotsLeaveOthers, SizesKeepAll, StaysGoOn, WritesKeepAll};
+ghost use Rattle.cfs_home.specs.Laws.{ClosesKeepAll, DeadSlotsMayClose, EndsAreClosed, EndsAreStored, LoadedAreFresh, LoadedAreThere, LoadedHaveBlocks, OtherBlocksMayChange, OtherSizesMayBeSet, PartsAreKept, ShutSlotsAreSwept, ShutSlotsLeaveOthers, SizesKeepAll, StaysGoOn, WritesKeepAll};
 
 /// Bytes of the lowest live entry may change, the size word may be set for it, and it may be closed
 /// once it is home: each step keeps the file that a mount finds.
@@ -54,4 +55,35 @@ pub fn other_blocks_may_change()
 /// of the first.
 pub fn stays_go_on()
     ensures { StaysGoOn }
+{}
+
+/// Once no live entry of a file is left, it is stored as a mount would have found it at the start.
+pub fn ends_are_stored()
+    ensures { EndsAreStored }
+{}
+
+/// A slot that was closed is swept, as is one that is a live entry, and stays so whatever slot is
+/// closed.
+pub fn shut_slots_are_swept()
+    ensures { ShutSlotsAreSwept }
+{}
+
+/// Once all slots are swept and no live entry of any file is left, no gate is open.
+pub fn ends_are_closed()
+    ensures { EndsAreClosed }
+{}
+
+/// Then a file is loaded as a fresh core, whose base is what a mount would have found at the start.
+pub fn loaded_are_fresh()
+    ensures { LoadedAreFresh }
+{}
+
+/// Each stored file has a core as which it is loaded.
+pub fn loaded_are_there()
+    ensures { LoadedAreThere }
+{}
+
+/// Such a core has the bytes of each block that is tagged for the file.
+pub fn loaded_have_blocks()
+    ensures { LoadedHaveBlocks }
 {}
