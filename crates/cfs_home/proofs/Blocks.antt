@@ -5,6 +5,7 @@ use Rattle.std.proofs.lemmas.Bool.{cases_lt}
 use Rattle.std.proofs.lemmas.Bool.Decides.{nat_tests}
 use Rattle.std.proofs.lemmas.List.{get_or-set_other, get_or-set_same, set_past}
 use Rattle.cfs_file.specs.declared.request.Request.{Request}
+use Rattle.cfs_file.specs.declared.request.Request.TheVariants as requests
 use Rattle.cfs_file.specs.declared.sizes.TheConstants.{BLOCK_LEN, FILE_BLOCKS}
 use Rattle.cfs_file.specs.Span.{Touches}
 use Rattle.cfs_block.specs.BlockImages.{Content}
@@ -12,7 +13,8 @@ use Rattle.cfs_medium.specs.Store.{byte_in, byte_of, tag_of}
 use Rattle.cfs_medium.specs.Depicts.{IsFor, content_at}
 use Rattle.cfs_medium.specs.Laws.{IsOfOthers}
 use Rattle.cfs_medium.proofs.Others.{tags-apart}
-use Rattle.cfs_home.specs.Disks.{BlocksBeside}
+use Rattle.cfs_home.specs.Disks.{BlocksBeside, BlocksHold, IsMapped}
+use Rattle.cfs_home.specs.Parts.{IsPlaced, own_byte}
 
 abbrev tagged_for : ℕ → ℕ → List Content → Option Content
 tagged_for ino block blocks = find (λ content. content.tag == tag_of ino block) blocks
@@ -200,3 +202,56 @@ set-other ino at blocks content old new p =
         IsFor ino (p / BLOCK_LEN) (set blocks at content) k → k ≢ at
     differs_new k within here same = set-tag ino at blocks content old new (p / BLOCK_LEN) within
         (subst (λ (j : ℕ). IsFor ino (p / BLOCK_LEN) (set blocks at content) j) same here)
+
+-- ---- bytes that stand
+
+-- the byte of the first block that is tagged for the position, or 0 where there is none
+abbrev IsRead : ℕ → ℕ → List Content → Type 0
+IsRead ino p blocks =
+    ((at : ℕ) × ((p / BLOCK_LEN < FILE_BLOCKS) × (IsFor ino (p / BLOCK_LEN) blocks at
+    × (byte_in ino blocks p ≡ get_or (content_at blocks at).bytes (p % BLOCK_LEN) 0))))
+    ⊎ ((p / BLOCK_LEN < FILE_BLOCKS → (at : ℕ) → IsFor ino (p / BLOCK_LEN) blocks at → ⊥)
+    × (byte_in ino blocks p ≡ 0))
+
+read-byte : (ino p : ℕ) (blocks : List Content) → IsRead ino p blocks
+read-byte ino p blocks = elim (cases_lt (p / BLOCK_LEN) FILE_BLOCKS) [
+  | inl within ↦
+      let test : nat_lt (p / BLOCK_LEN) FILE_BLOCKS ≡ true = grind (arith, nat_tests) in
+      elim (first-or-none ino (p / BLOCK_LEN) blocks) [
+        | inl found ↦ inl (found.0, (within, (found.1.here,
+            chosen true test ∙ ap byte found.1.found)))
+        | inr nowhere ↦ inr (λ less at. nowhere.none at, chosen true test ∙ ap byte nowhere.missing)
+      ]
+  | inr past ↦
+      let test : nat_lt (p / BLOCK_LEN) FILE_BLOCKS ≡ false = grind (arith, nat_tests) in
+      inr (λ less at is. omega arith, chosen false test)
+]
+  where
+    byte : Option Content → ℕ
+    byte found = byte_of found (p % BLOCK_LEN)
+
+    chosen : (b : Bool) → nat_lt (p / BLOCK_LEN) FILE_BLOCKS ≡ b →
+        byte_in ino blocks p
+        ≡ byte (if b then tagged_for ino (p / BLOCK_LEN) blocks else None)
+    chosen b test = ap (λ (c : Bool).
+        byte (if c then tagged_for ino (p / BLOCK_LEN) blocks else None)) test
+
+pub byte-held : (ino : ℕ) (request : Request) (blocks : List Content) (p : ℕ) →
+    IsPlaced request → IsMapped ino request blocks → BlocksHold ino request blocks →
+    Touches request 0 p → byte_in ino blocks p ≡ own_byte request p
+byte-held ino (requests.Write offset bytes) blocks p placed mapped hold here =
+    elim (read-byte ino p blocks) [
+      | inl read ↦ read.1.1.1 ∙ hold read.0 p read.1.0 read.1.1.0 here
+      | inr nowhere ↦
+          let block = mapped p here in
+          let high = here.1 in
+          absurd (nowhere.0 (omega (arith, placed, high)) block.0 block.1)
+    ]
+byte-held ino (requests.Append bytes) blocks p placed mapped hold here = absurd placed
+byte-held ino (requests.Truncate n) blocks p placed mapped hold here =
+    elim (read-byte ino p blocks) [
+      | inl read ↦ read.1.1.1 ∙ hold read.0 p read.1.0 read.1.1.0 here
+      | inr nowhere ↦ nowhere.1
+    ]
+byte-held ino (requests.Read offset count) blocks p placed mapped hold here = absurd placed
+byte-held ino requests.Sync blocks p placed mapped hold here = absurd placed

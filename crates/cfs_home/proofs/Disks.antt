@@ -10,8 +10,8 @@ use Rattle.cfs_medium.specs.Store.{by_gate, byte_in, entry_at, live_in}
 use Rattle.cfs_medium.proofs.Slots.{not_live-none}
 use Rattle.cfs_home.specs.Parts.{Closed, Keeps, SizeMoved, SomeTouches, size_after}
 use Rattle.cfs_home.specs.Disks.{AllStay, AreFiles, AreTwo, ClosesSlot, Disk, File, IsOnce, IsReady, SetsSize, Stays, part_of}
-use Rattle.cfs_home.specs.Laws.{ClosesKeepAll, DeadSlotsMayClose, OtherBlocksMayChange, OtherSizesMayBeSet, SizesKeepAll, StaysGoOn, WritesKeepAll}
-use Rattle.cfs_home.proofs.Blocks.{set-other, written-beside, written-other}
+use Rattle.cfs_home.specs.Laws.{ClosesKeepAll, DeadSlotsMayClose, HeldAreHome, OtherBlocksMayChange, OtherSizesMayBeSet, SizesKeepAll, StaysGoOn, WritesKeepAll}
+use Rattle.cfs_home.proofs.Blocks.{byte-held, set-other, written-beside, written-other}
 use Rattle.cfs_home.proofs.Parts.{parts-kept}
 use Rattle.cfs_home.proofs.Slots.{shut-lowest, shut-once, shut-same}
 
@@ -181,6 +181,14 @@ closes-all files file at entry rest first second are among ready low home step =
         rest moved)
         (subst (IsOnce file.ino) (sym step.slots)
         (shut-once file.ino at first.slots (ready file among).once))
+
+-- ---- a request is home
+
+pub held-home : HeldAreHome
+held-home file request disk placed mapped hold size = record {
+  size_is = size;
+  bytes_are = λ p here. byte-held file.ino request disk.blocks p placed mapped hold here;
+}
 
 -- ---- what is no file's
 

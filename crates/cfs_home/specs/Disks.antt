@@ -3,6 +3,7 @@ use Rattle.std.specs.Prelude.{ℕ, ◌/◌, ◌%◌, ◌<◌, ◌≡◌, ◌≢�
 use Rattle.std.specs.List.{Contains}
 use Rattle.std.proofs.Math.ListN.{set}
 use Rattle.cfs_file.specs.declared.request.Request.{Request}
+use Rattle.cfs_file.specs.declared.request.Request.TheVariants as requests
 use Rattle.cfs_file.specs.declared.sizes.TheConstants.{BLOCK_LEN, FILE_BLOCKS}
 use Rattle.cfs_file.specs.Span.{Touches}
 use Rattle.cfs_block.specs.BlockImages.{Content}
@@ -10,7 +11,7 @@ use Rattle.cfs_slot.specs.Words.{is_live}
 use Rattle.cfs_medium.specs.Store.{Store, by_gate, byte_in, entry_at, live_in, recovered_file, stored_file}
 use Rattle.cfs_medium.specs.Depicts.{IsFor, content_at}
 use Rattle.cfs_medium.specs.Laws.{IsOfOthers}
-use Rattle.cfs_home.specs.Parts.{IsSound, Part}
+use Rattle.cfs_home.specs.Parts.{IsSound, Part, own_byte}
 
 -- the size word of each record, the words of every slot and the content of every block
 pub record Disk : Type 0 where
@@ -95,6 +96,20 @@ pub record BlocksBeside (ino : ℕ) (request : Request) (first second : List Con
       IsFor ino (position / BLOCK_LEN) first at → (Touches request 0 position → ⊥) →
       get_or (content_at second at).bytes (position % BLOCK_LEN) 0
       ≡ get_or (content_at first at).bytes (position % BLOCK_LEN) 0
+
+-- In each block of the inode the request's bytes stand where it touches.
+abbrev pub BlocksHold : ℕ → Request → List Content → Type 0
+BlocksHold ino request blocks =
+    (at position : ℕ) → position / BLOCK_LEN < FILE_BLOCKS →
+    IsFor ino (position / BLOCK_LEN) blocks at → Touches request 0 position →
+    get_or (content_at blocks at).bytes (position % BLOCK_LEN) 0 ≡ own_byte request position
+
+-- Each position that a write touches has a block of the inode. A truncate wants none.
+abbrev pub IsMapped : ℕ → Request → List Content → Type 0
+IsMapped ino (requests.Write offset bytes) blocks =
+    (position : ℕ) → Touches (requests.Write offset bytes) 0 position →
+    (at : ℕ) × IsFor ino (position / BLOCK_LEN) blocks at
+IsMapped ino request blocks = Unit {0}
 
 -- Bytes that the request touches are now anything, in any number of blocks.
 pub record WritesBlocks (file : File) (request : Request) (first second : Disk) : Type 0 where

@@ -9,9 +9,9 @@ use Rattle.cfs_block.specs.BlockImages.{Content}
 use Rattle.cfs_slot.specs.Words.{gate_of}
 use Rattle.cfs_medium.specs.Depicts.{content_at}
 use Rattle.cfs_medium.specs.Store.{block_for, entry_at}
-use Rattle.cfs_home.specs.Disks.{AllStay, AreFiles, AreReady, ChangesBlock, ClosesSlot, Disk, File, IsDead, IsLowest, IsNoNode, IsNoTag, SetsSize, WritesBlocks, part_of, recovered_in, shut, stored_in}
+use Rattle.cfs_home.specs.Disks.{AllStay, AreFiles, AreReady, BlocksHold, ChangesBlock, ClosesSlot, Disk, File, IsDead, IsLowest, IsMapped, IsNoNode, IsNoTag, SetsSize, WritesBlocks, part_of, recovered_in, shut, stored_in}
 use Rattle.cfs_home.specs.Ends.{AreDrained, IsClosedOrLive, IsDrained, IsLoaded}
-use Rattle.cfs_home.specs.Parts.{BytesMoved, Closed, IsHome, IsSound, Keeps, Part, SizeMoved, size_after}
+use Rattle.cfs_home.specs.Parts.{BytesMoved, Closed, IsHome, IsPlaced, IsSound, Keeps, Part, SizeMoved, size_after}
 
 -- A mount may stop behind any step for the lowest entry, and another mount finds the same file.
 abbrev pub PartsAreKept : Type 0
@@ -56,6 +56,14 @@ ClosesKeepAll =
     (first second : Disk) → AreFiles files → Contains files file → AreReady files first →
     IsLowest file at entry rest first → IsHome (part_of file first) entry.1 →
     ClosesSlot at first second → AllStay files first second
+
+-- It is home once its bytes stand in the blocks of the file, and its size word is set.
+abbrev pub HeldAreHome : Type 0
+HeldAreHome =
+    (file : File) (request : Request) (disk : Disk) → IsPlaced request →
+    IsMapped file.ino request disk.blocks → BlocksHold file.ino request disk.blocks →
+    size_after request (disk.sizes file.node) ≡ disk.sizes file.node →
+    IsHome (part_of file disk) request
 
 -- And what it may do that is no matter to any of them.
 

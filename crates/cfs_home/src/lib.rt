@@ -6,7 +6,7 @@
 //! keep.
 #![tactic(auto)]
 
-ghost use Rattle.cfs_home.specs.Laws.{ClosesKeepAll, DeadSlotsMayClose, EndsAreClosed, EndsAreStored, LoadedAreFresh, LoadedAreThere, LoadedHaveBlocks, OtherBlocksMayChange, OtherSizesMayBeSet, PartsAreKept, ShutSlotsAreSwept, ShutSlotsLeaveOthers, SizesKeepAll, StaysGoOn, WritesKeepAll};
+ghost use Rattle.cfs_home.specs.Laws.{ClosesKeepAll, DeadSlotsMayClose, EndsAreClosed, EndsAreStored, HeldAreHome, LoadedAreFresh, LoadedAreThere, LoadedHaveBlocks, OtherBlocksMayChange, OtherSizesMayBeSet, PartsAreKept, ShutSlotsAreSwept, ShutSlotsLeaveOthers, SizesKeepAll, StaysGoOn, WritesKeepAll};
 
 /// Bytes of the lowest live entry may change, the size word may be set for it, and it may be closed
 /// once it is home: each step keeps the file that a mount finds.
@@ -34,6 +34,11 @@ pub fn sizes_keep_all()
 /// Once it is home its gate may be closed.
 pub fn closes_keep_all()
     ensures { ClosesKeepAll }
+{}
+
+/// It is home once its bytes stand in the blocks of the file, and its size word is set.
+pub fn held_are_home()
+    ensures { HeldAreHome }
 {}
 
 /// A slot that is no live entry of a file may be closed.
