@@ -63,28 +63,28 @@ rises-put low new (first ∷ rest) up rises other =
 
 -- ---- all entries
 
-has-by_gate : (xs : List (ℕ × Request)) (e : ℕ × Request) → Has (by_gate xs) e → Has xs e
+pub has-by_gate : (xs : List (ℕ × Request)) (e : ℕ × Request) → Has (by_gate xs) e → Has xs e
 has-by_gate [] e h = h
 has-by_gate (first ∷ rest) e h = elim (has-put first (by_gate rest) e h) [
   | inl same ↦ inl same
   | inr more ↦ inr (has-by_gate rest e more)
 ]
 
-by_gate-has : (xs : List (ℕ × Request)) (e : ℕ × Request) → Has xs e → Has (by_gate xs) e
+pub by_gate-has : (xs : List (ℕ × Request)) (e : ℕ × Request) → Has xs e → Has (by_gate xs) e
 by_gate-has [] e h = h
 by_gate-has (first ∷ rest) e h = put-has first (by_gate rest) e (elim h [
   | inl same ↦ inl same
   | inr more ↦ inr (by_gate-has rest e more)
 ])
 
-rises-by_gate : (xs : List (ℕ × Request)) → AreApart xs → Rises 0 (gates (by_gate xs))
+pub rises-by_gate : (xs : List (ℕ × Request)) → AreApart xs → Rises 0 (gates (by_gate xs))
 rises-by_gate [] apart = tt
 rises-by_gate (first ∷ rest) apart =
     rises-put 0 first (by_gate rest) (omega arith) (rises-by_gate rest apart.1) (λ e among. apart.0 e (has-by_gate rest e among))
 
 -- ---- lists whose gates rise
 
-at_least : (low : ℕ) (xs : List (ℕ × Request)) (e : ℕ × Request) → Rises low (gates xs) → Has xs e → low ≤ e.0
+pub at_least : (low : ℕ) (xs : List (ℕ × Request)) (e : ℕ × Request) → Rises low (gates xs) → Has xs e → low ≤ e.0
 at_least low [] e rises h = absurd h
 at_least low (first ∷ rest) e rises h = elim h [
   | inl same ↦ rw same rises.0

@@ -1,0 +1,5 @@
+pub mod Parts
+pub mod Slots
+pub mod Blocks
+pub mod Disks
+pub mod Ends

@@ -1,0 +1,136 @@
+-- What the steps of a mount keep.
+use Rattle.std.specs.Prelude.{ℕ, ◌+◌, ◌*◌, ◌<◌, ◌≡◌, ◌⊎◌, ◌==◌, if◌then◌else◌, Some, None, List, [], get_or}
+use Rattle.std.specs.List.{Contains}
+use Rattle.cfs_file.specs.declared.request.Request.{Request}
+use Rattle.cfs_file.specs.declared.sizes.TheConstants.{BLOCK_LEN}
+use Rattle.cfs_core.specs.declared.inode_core.Core.{Core}
+use Rattle.cfs_core.specs.Fresh.{IsFresh}
+use Rattle.cfs_block.specs.BlockImages.{Content}
+use Rattle.cfs_slot.specs.Words.{gate_of}
+use Rattle.cfs_medium.specs.Depicts.{content_at}
+use Rattle.cfs_medium.specs.Store.{block_for, entry_at}
+use Rattle.cfs_home.specs.Disks.{AllStay, AreFiles, AreReady, BlocksHold, ChangesBlock, ClosesSlot, Disk, File, IsDead, IsLowest, IsMapped, IsNoNode, IsNoTag, SetsSize, WritesBlocks, part_of, recovered_in, shut, stored_in}
+use Rattle.cfs_home.specs.Ends.{AreDrained, IsClosedOrLive, IsDrained, IsLoaded}
+use Rattle.cfs_home.specs.Parts.{BytesMoved, Closed, IsHome, IsPlaced, IsSound, Keeps, Part, SizeMoved, size_after}
+
+-- A mount may stop behind any step for the lowest entry, and another mount finds the same file.
+abbrev pub PartsAreKept : Type 0
+PartsAreKept =
+    (first second : Part) → IsSound first →
+    (BytesMoved first second → Keeps first second)
+    × ((entry : ℕ × Request) (rest : List (ℕ × Request)) →
+    SizeMoved first second entry rest → Keeps first second)
+    × ((entry : ℕ × Request) (rest : List (ℕ × Request)) →
+    Closed first second entry rest → Keeps first second)
+
+-- A slot whose gate is closed is no live entry any more. All others are what they were, also those
+-- that have it as a tail.
+abbrev pub ShutSlotsLeaveOthers : Type 0
+ShutSlotsLeaveOthers =
+    (ino at : ℕ) (slots : List (List ℕ)) (other : ℕ) →
+    entry_at ino (shut at slots) other ≡ (if other == at then None else entry_at ino slots other)
+
+-- What a mount may do for the lowest live entry of one of the files, so that it may stop there.
+
+-- write and flush its blocks, in any order
+abbrev pub WritesKeepAll : Type 0
+WritesKeepAll =
+    (files : List File) (file : File) (at : ℕ) (entry : ℕ × Request) (rest : List (ℕ × Request))
+    (first second : Disk) → AreFiles files → Contains files file → AreReady files first →
+    IsLowest file at entry rest first → WritesBlocks file entry.1 first second →
+    AllStay files first second
+
+-- set its size word
+abbrev pub SizesKeepAll : Type 0
+SizesKeepAll =
+    (files : List File) (file : File) (at : ℕ) (entry : ℕ × Request) (rest : List (ℕ × Request))
+    (first second : Disk) → AreFiles files → Contains files file → AreReady files first →
+    IsLowest file at entry rest first →
+    SetsSize file.node (size_after entry.1 (first.sizes file.node)) first second →
+    AllStay files first second
+
+-- close its gate, once it is home
+abbrev pub ClosesKeepAll : Type 0
+ClosesKeepAll =
+    (files : List File) (file : File) (at : ℕ) (entry : ℕ × Request) (rest : List (ℕ × Request))
+    (first second : Disk) → AreFiles files → Contains files file → AreReady files first →
+    IsLowest file at entry rest first → IsHome (part_of file first) entry.1 →
+    ClosesSlot at first second → AllStay files first second
+
+-- It is home once its bytes stand in the blocks of the file, and its size word is set.
+abbrev pub HeldAreHome : Type 0
+HeldAreHome =
+    (file : File) (request : Request) (disk : Disk) → IsPlaced request →
+    IsMapped file.ino request disk.blocks → BlocksHold file.ino request disk.blocks →
+    size_after request (disk.sizes file.node) ≡ disk.sizes file.node →
+    IsHome (part_of file disk) request
+
+-- And what it may do that is no matter to any of them.
+
+-- close a slot that is no live entry of a file
+abbrev pub DeadSlotsMayClose : Type 0
+DeadSlotsMayClose =
+    (files : List File) (at : ℕ) (first second : Disk) → AreReady files first →
+    IsDead files (get_or first.slots at []) → ClosesSlot at first second →
+    AllStay files first second
+
+-- set the size word of a record that is no file's
+abbrev pub OtherSizesMayBeSet : Type 0
+OtherSizesMayBeSet =
+    (files : List File) (node size : ℕ) (first second : Disk) → AreReady files first →
+    IsNoNode files node → SetsSize node size first second → AllStay files first second
+
+-- untag a block that is no file's
+abbrev pub OtherBlocksMayChange : Type 0
+OtherBlocksMayChange =
+    (files : List File) (at : ℕ) (content : Content) (first second : Disk) →
+    AreReady files first →
+    IsNoTag files (content_at first.blocks at).tag → IsNoTag files content.tag →
+    ChangesBlock at content first second → AllStay files first second
+
+-- So step follows step.
+abbrev pub StaysGoOn : Type 0
+StaysGoOn =
+    (files : List File) (first second third : Disk) → AllStay files first second →
+    AreReady files second
+    × (AllStay files second third → AllStay files first third)
+
+-- Where no live entry of a file is left, it is stored as a mount would have found it at the start.
+abbrev pub EndsAreStored : Type 0
+EndsAreStored =
+    (files : List File) (file : File) (first last : Disk) → Contains files file →
+    AllStay files first last → IsDrained file last →
+    stored_in file last ≡ recovered_in file first
+
+-- A slot is closed or live once it was closed, and stays so whatever slot is closed.
+abbrev pub ShutSlotsAreSwept : Type 0
+ShutSlotsAreSwept =
+    (files : List File) (at other : ℕ) (slots : List (List ℕ)) →
+    (other ≡ at) ⊎ IsClosedOrLive files (get_or slots other []) →
+    IsClosedOrLive files (get_or (shut at slots) other [])
+
+-- So where no live entry of any file is left, no gate is open.
+abbrev pub EndsAreClosed : Type 0
+EndsAreClosed =
+    (files : List File) (last : Disk) →
+    ((at : ℕ) → IsClosedOrLive files (get_or last.slots at [])) → AreDrained files last →
+    (at : ℕ) → gate_of (get_or last.slots at []) ≡ 0
+
+-- A run may begin with a core that is loaded then. Its base is the file that a mount would have
+-- found at the start.
+abbrev pub LoadedAreFresh : Type 0
+LoadedAreFresh =
+    (files : List File) (file : File) (first last : Disk) (core : Core) → Contains files file →
+    AllStay files first last → IsDrained file last → IsLoaded file last core →
+    IsFresh core × (core.base ≡ recovered_in file first)
+
+-- There is such a core.
+abbrev pub LoadedAreThere : Type 0
+LoadedAreThere = (file : File) (disk : Disk) → (core : Core) × IsLoaded file disk core
+
+-- It has the bytes of each block that is tagged for the file.
+abbrev pub LoadedHaveBlocks : Type 0
+LoadedHaveBlocks =
+    (file : File) (disk : Disk) (core : Core) (block k : ℕ) (content : Content) →
+    IsLoaded file disk core → block_for file.ino block disk.blocks ≡ Some content →
+    k < BLOCK_LEN → get_or content.bytes k 0 ≡ get_or core.bytes (BLOCK_LEN * block + k) 0

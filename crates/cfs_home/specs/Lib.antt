@@ -1,0 +1,4 @@
+pub mod Parts
+pub mod Disks
+pub mod Ends
+pub mod Laws
