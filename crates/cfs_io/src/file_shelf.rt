@@ -93,6 +93,8 @@ impl<F: Folder> Shelf for FileShelf<F> {
         ensures kept { OnOk result (self.new.load_faults ≡ self.old.load_faults) }
         ensures kept_absent { IsErrOf result LoadRefusal.Absent →
             self.new.load_faults ≡ self.old.load_faults }
+        ensures kept_want { IsErrOf result LoadRefusal.NoMemory →
+            self.new.load_faults ≡ self.old.load_faults }
         ensures saves { self.new.save_faults ≡ self.old.save_faults }
 
         // Beyond the trait: it fails only where the folder did, or for a file that is too long.

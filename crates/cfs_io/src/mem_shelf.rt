@@ -94,6 +94,8 @@ impl Shelf for MemShelf {
         ensures kept { OnOk result (self.new.load_faults ≡ self.old.load_faults) }
         ensures kept_absent { IsErrOf result LoadRefusal.Absent →
             self.new.load_faults ≡ self.old.load_faults }
+        ensures kept_want { IsErrOf result LoadRefusal.NoMemory →
+            self.new.load_faults ≡ self.old.load_faults }
         ensures saves { self.new.save_faults ≡ self.old.save_faults }
 
         // Beyond the trait: which loads fail.

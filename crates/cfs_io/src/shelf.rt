@@ -32,6 +32,8 @@ pub trait Shelf {
         ensures kept { OnOk result (load_faults self.new ≡ load_faults self.old) }
         ensures kept_absent { IsErrOf result LoadRefusal.Absent →
             load_faults self.new ≡ load_faults self.old }
+        ensures kept_want { IsErrOf result LoadRefusal.NoMemory →
+            load_faults self.new ≡ load_faults self.old }
         ensures saves { save_faults self.new ≡ save_faults self.old };
 
     /// Makes `bytes` the file `name`, in place of one that is there. A failed save changes no file
