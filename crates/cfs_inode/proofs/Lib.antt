@@ -11,3 +11,11 @@ pub mod Quiet
 pub mod Composing
 pub mod Dispatches
 pub mod States
+pub mod MarkTells
+pub mod Marks
+pub mod Blocks
+pub mod Zeros
+pub mod Trimmings
+pub mod TrimTells
+pub mod Coverings
+pub mod CoverTells

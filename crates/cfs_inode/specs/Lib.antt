@@ -5,3 +5,6 @@ pub mod Ends
 pub mod Opening
 pub mod Reads
 pub mod Jobs
+pub mod Marking
+pub mod Trims
+pub mod Covering

@@ -2,12 +2,19 @@
 #![tactic(auto)]
 
 mod answers;
+mod covering;
+mod mark;
+mod mark_answer;
 mod open;
 mod reading;
 mod reads;
 mod settle;
 mod skip;
 mod state;
+mod trim;
+mod trim_answer;
 
 pub use answers::CloseAnswer;
+pub use mark_answer::MarkAnswer;
 pub use state::{InodeState, State};
+pub use trim_answer::TrimAnswer;
