@@ -11,3 +11,8 @@ pub mod Quiet
 pub mod Composing
 pub mod Dispatches
 pub mod States
+pub mod News
+pub mod Works
+pub mod Serving
+pub mod Copies
+pub mod ReadSteps
