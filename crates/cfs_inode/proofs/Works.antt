@@ -113,20 +113,20 @@ holder-told tell cells None = refl
 holder-told tell cells (Some k) =
     ap lent_to (cell-told tell cells k) ∙ lent-told tell (cell_at cells k)
 
-wanted-told : {B C : Type 0} (tell : B → C) (cells : List (Cell B)) (span : Span) (done : Option ℕ)
+wanted-told : {B C : Type 0} (tell : B → C) (cells : List (Cell B)) (span : Span) (last : Option ℕ)
     (k : ℕ) →
-    is_wanted_cell (map (told_cell tell) cells) span done k ≡ is_wanted_cell cells span done k
-wanted-told tell cells span done k =
+    is_wanted_cell (map (told_cell tell) cells) span last k ≡ is_wanted_cell cells span last k
+wanted-told tell cells span last k =
     rw (ap is_mapped (cell-told tell cells k) ∙ mapped-told tell (cell_at cells k)) refl
 
 next-told : {B C : Type 0} (tell : B → C) (cells : List (Cell B)) (span : Span)
-    (done : Option ℕ) →
-    next_cell (map (told_cell tell) cells) span done ≡ next_cell cells span done
-next-told tell cells span done =
-    ap (λ n. find (is_wanted_cell (map (told_cell tell) cells) span done) (range_with_len 0 n))
-    (length-map (told_cell tell) cells)
-    ∙ find-same (is_wanted_cell cells span done)
-    (is_wanted_cell (map (told_cell tell) cells) span done) (wanted-told tell cells span done)
+    (last : Option ℕ) →
+    next_cell (map (told_cell tell) cells) span last ≡ next_cell cells span last
+next-told tell cells span last =
+    ap (λ n. find (is_wanted_cell (map (told_cell tell) cells) span last) (range_with_len 0 n))
+    (length-map cells (told_cell tell))
+    ∙ find-same (is_wanted_cell cells span last)
+    (is_wanted_cell (map (told_cell tell) cells) span last) (wanted-told tell cells span last)
     (range_with_len 0 (length cells))
 
 -- ---- a change that waits

@@ -6,4 +6,3 @@ pub mod Opening
 pub mod Reads
 pub mod Jobs
 pub mod New
-pub mod Serves
