@@ -19,3 +19,5 @@ pub mod Trimmings
 pub mod TrimTells
 pub mod Coverings
 pub mod CoverTells
+pub mod News
+pub mod Works

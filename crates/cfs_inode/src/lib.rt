@@ -5,7 +5,10 @@ mod answers;
 mod covering;
 mod mark;
 mod mark_answer;
+mod mapped;
+mod new;
 mod open;
+mod parts;
 mod reading;
 mod reads;
 mod settle;
@@ -16,5 +19,9 @@ mod trim_answer;
 
 pub use answers::CloseAnswer;
 pub use mark_answer::MarkAnswer;
+mod telling;
+
+pub use answers::CloseAnswer;
+pub use mapped::Mapped;
 pub use state::{InodeState, State};
 pub use trim_answer::TrimAnswer;
