@@ -12,3 +12,4 @@ pub mod Finish
 pub mod Trim
 pub mod Work
 pub mod Least
+pub mod Passed

@@ -23,6 +23,7 @@ mod laws;
 mod lending;
 mod mark;
 mod new;
+mod passed;
 mod pending;
 mod reading;
 mod reads;
