@@ -31,7 +31,8 @@ fn takes_now(step: Step) -> bool
 impl<S: Drop, D: Drop, B: Drop> Tracker<S, D, B> {
     /// What becomes of the change at a place: a job may take it; or it waits, for the first earlier
     /// live entry or read that overlaps it, else for the first entry whose job has a block that it
-    /// needs; or no change waits there.
+    /// needs; or no change waits there. Walks the entries twice, the reads once, and the blocks of
+    /// the change's span once.
     pub fn step(&self, place: u64) -> Step
         ensures { result ≡ step_at (view_of self.now) place }
     {
@@ -134,7 +135,8 @@ impl<S: Drop, D: Drop, B: Drop> Tracker<S, D, B> {
         is_still(cells, first) && is_still(cells, second)
     }
 
-    /// A job takes the change at a place, as `step` says, with these blocks.
+    /// A job takes the change at a place, as `step` says, with these blocks. Walks the entries to
+    /// the place.
     pub fn dispatch(&mut self, place: u64, first: Option<u64>, second: Option<u64>) -> Taken<S, B>
         requires ready { step_at (view_of self.old) place ≡ takes first second }
         requires still { are_still (view_of self.old).cells first second ≡ true }

@@ -35,9 +35,9 @@ impl<S: Drop, D: Drop, B: Drop> Tracker<S, D, B> {
     /// The first place behind `after` that is a no-op with its slots, or a change that a job may
     /// take.
     ///
-    /// It walks the entries to the answer once, and compares each with a few stretches of those that
-    /// it has passed. For the answer, and for a change before it that overlaps none of these
-    /// stretches, it also walks the blocks of the span, the reads, and the entries to what is ahead.
+    /// It walks the entries to the answer once, and compares each with at most eight stretches of
+    /// those that it has passed. For the answer, and for a change before it that overlaps none of
+    /// these, it also walks the blocks of the span, the reads, and the entries to what is ahead.
     pub fn next_work(&self, after: u64) -> Option<Work>
         ensures { result ≡ next_work (view_of self.now) after }
     {
@@ -79,14 +79,14 @@ impl<S: Drop, D: Drop, B: Drop> Tracker<S, D, B> {
         }
     }
 
-    /// The entry of a place.
+    /// The entry of a place. Walks the entries to it.
     pub fn entry(&self, place: u64) -> Option<&Pending<S>>
         ensures { option_copied result ≡ entry_at (view_of self.now).entries place }
     {
         entry_of(self.entries.as_slice(), place)
     }
 
-    /// The first entry behind a place.
+    /// The first entry behind a place. Walks the entries to it.
     pub fn next_entry(&self, after: u64) -> Option<&Pending<S>>
         ensures { option_copied result ≡
             find (λ e. nat_lt after e.place) (view_of self.now).entries }
