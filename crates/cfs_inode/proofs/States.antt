@@ -103,6 +103,12 @@ pub some-taken : {D : Type 0} (doubt : Option (InDoubt D)) (slots : D) →
 some-taken None slots h = cc
 some-taken (Some doubt) slots h = refl
 
+-- once they are taken, they are out
+pub taken-out : {D : Type 0} (doubt : Option (InDoubt D)) →
+    doubt_slots (with_slots None doubt) ≡ None
+taken-out None = refl
+taken-out (Some doubt) = refl
+
 -- taken where there is none, it is as it was
 pub view-settling : {S D B : Type 0} (view : TrackerView S D B) → None ≡ doubt_slots view.doubt →
     settling view ≡ view

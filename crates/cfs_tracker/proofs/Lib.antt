@@ -20,3 +20,4 @@ pub mod Windows
 pub mod Behind
 pub mod Named
 pub mod HandedOut
+pub mod Passing

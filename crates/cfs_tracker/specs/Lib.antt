@@ -13,3 +13,4 @@ pub mod Trim
 pub mod Work
 pub mod Least
 pub mod Listing
+pub mod Passed

@@ -29,13 +29,14 @@ fn is_change(request: &Request) -> bool
 }
 
 impl<S: Drop, D: Drop, B: Drop> Tracker<S, D, B> {
-    /// How many places were given.
+    /// How many places were given. Walks nothing.
     pub fn count(&self) -> u64
         ensures { result ≡ (view_of self.now).count }
     {
         self.count
     }
 
+<<<<<<< HEAD
     /// The length of the file after all that was admitted.
     pub fn long(&self) -> u64
         ensures { result ≡ (view_of self.now).long }
@@ -44,6 +45,9 @@ impl<S: Drop, D: Drop, B: Drop> Tracker<S, D, B> {
     }
 
     /// Whether the file after the request is short enough.
+=======
+    /// Whether the file after the request is short enough. Walks nothing.
+>>>>>>> b18bd84383332041d8d3a2a4301495493047d0e8
     pub fn fits(&self, request: &Request) -> bool
         ensures { result ≡ nat_le (long_after (view_of self.now).long request.now) LONGEST_FILE }
     {
@@ -63,7 +67,7 @@ impl<S: Drop, D: Drop, B: Drop> Tracker<S, D, B> {
     }
 
     /// The first block of the file that the request needs and that no block of the medium is tagged
-    /// for in every image.
+    /// for in every image. Walks the blocks of the span to the answer.
     pub fn first_unmapped(&self, request: &Request) -> Option<u64>
         requires { EndFits request.now (view_of self.now).long }
         ensures { result ≡ first_unmapped (view_of self.now).cells
@@ -82,7 +86,7 @@ impl<S: Drop, D: Drop, B: Drop> Tracker<S, D, B> {
     }
 
     /// Whether the request may be admitted: nothing is in doubt, and it is a change whose file is
-    /// short enough and whose blocks are mapped.
+    /// short enough and whose blocks are mapped. Walks the blocks of the span.
     pub fn may_admit(&self, request: &Request) -> bool
         ensures { IsTrue result ↔ MayAdmit (view_of self.now) request.now }
     {
@@ -93,6 +97,7 @@ impl<S: Drop, D: Drop, B: Drop> Tracker<S, D, B> {
     }
 
     /// A change takes the next place: its gate was opened with this number. Answers the place.
+    /// Walks nothing.
     pub fn admit(&mut self, request: &Request, grant: u64, slots: S) -> u64
         requires admits { MayAdmit (view_of self.old) request.now }
         requires places { (view_of self.old).count + 1 < 2 ^ 64 }
@@ -140,7 +145,8 @@ impl<S: Drop, D: Drop, B: Drop> Tracker<S, D, B> {
         }
     }
 
-    /// The gate of a change failed, and may be open with the number of the next place.
+    /// The gate of a change failed, and may be open with the number of the next place. Walks
+    /// nothing.
     pub fn doubt(&mut self, request: &Request, grant: u64, slots: D)
         requires admits { MayAdmit (view_of self.old) request.now }
         requires places { (view_of self.old).count + 1 < 2 ^ 64 }

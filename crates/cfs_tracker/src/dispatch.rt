@@ -1,6 +1,6 @@
 //! A job takes a change and its next blocks.
 
-ghost use Rattle.std.specs.Prelude.{◌≡◌, ◌<◌, Some, find, length, option_copied, true, ℕ};
+ghost use Rattle.std.specs.Prelude.{◌≡◌, ◌<◌, Some, find, is_none, length, option_copied, true, ℕ};
 ghost use Rattle.std.specs.List.{list_all, range_with_len};
 ghost use Rattle.cfs_file.specs.declared.sizes.TheConstants.{FILE_BLOCKS};
 ghost use Rattle.cfs_core.specs.declared.event.Event.TheVariants as events;
@@ -11,18 +11,28 @@ ghost use Rattle.cfs_tracker.specs.declared.step.Step.TheVariants.{Takes as take
 ghost use Rattle.cfs_tracker.specs.Dispatch.{ahead, are_still, dispatched, first_cell, holder, is_still, lesser, second_cell, step_at, step_behind, step_of, step_of_blocks, tile_at, waiting_slots};
 ghost use Rattle.cfs_tracker.specs.Finish.{IsOut};
 ghost use Rattle.cfs_tracker.specs.Follows.{Follows};
+ghost use Rattle.cfs_tracker.specs.Passed.{IsOf};
 ghost use Rattle.cfs_tracker.specs.View.{KeepsRoom, entry_at, view_of};
+ghost use Rattle.cfs_tracker.specs.Work.{takes_now};
 
 use crate::ahead::{first_ahead, first_read_ahead, lesser};
 use crate::blockers::place_of;
 use crate::find::{entry_of, redo};
 use crate::lending::{holder, is_still, lend, next_cell};
+use crate::passed::Passed;
 use crate::{Doing, Pending, Step, Taken, Tracker};
+
+fn takes_now(step: Step) -> bool
+    ensures { result ≡ takes_now step }
+{
+    matches!(step, Step::Takes { .. })
+}
 
 impl<S: Drop, D: Drop, B: Drop> Tracker<S, D, B> {
     /// What becomes of the change at a place: a job may take it; or it waits, for the first earlier
     /// live entry or read that overlaps it, else for the first entry whose job has a block that it
-    /// needs; or no change waits there.
+    /// needs; or no change waits there. Walks the entries twice, the reads once, and the blocks of
+    /// the change's span once.
     pub fn step(&self, place: u64) -> Step
         ensures { result ≡ step_at (view_of self.now) place }
     {
@@ -32,7 +42,7 @@ impl<S: Drop, D: Drop, B: Drop> Tracker<S, D, B> {
         }
     }
 
-    pub(crate) fn step_of(&self, entry: &Pending<S>) -> Step
+    fn step_of(&self, entry: &Pending<S>) -> Step
         ensures { result ≡ step_of (view_of self.now) (Some entry.now) }
     {
         if entry.doing.is_waiting() {
@@ -40,6 +50,28 @@ impl<S: Drop, D: Drop, B: Drop> Tracker<S, D, B> {
         } else {
             Step::NotWaiting
         }
+    }
+
+    /// Whether `step_of` says that a job may take the change. The first that is found in its way
+    /// ends the search: what a walk has passed, a block, a read, an entry.
+    pub(crate) fn may_take(&self, entry: &Pending<S>, passed: &Passed) -> bool
+        requires { IsOf (view_of self.now).entries passed.now }
+        ensures { result ≡ takes_now (step_of (view_of self.now) (Some entry.now)) }
+    {
+        !passed.is_before(entry) && self.is_ready(entry)
+    }
+
+    fn is_ready(&self, entry: &Pending<S>) -> bool
+        ensures { result ≡ takes_now (step_of (view_of self.now) (Some entry.now)) }
+    {
+        entry.doing.is_waiting() && takes_now(self.step_behind(entry, None)) && self.is_clear(entry)
+    }
+
+    fn is_clear(&self, entry: &Pending<S>) -> bool
+        ensures { result ≡ is_none (ahead (view_of self.now) entry.now) }
+    {
+        first_read_ahead(self.reads.as_slice(), entry.place, &entry.span).is_none()
+            && first_ahead(self.entries.as_slice(), entry.place, &entry.span).is_none()
     }
 
     fn ahead(&self, entry: &Pending<S>) -> Option<u64>
@@ -103,7 +135,8 @@ impl<S: Drop, D: Drop, B: Drop> Tracker<S, D, B> {
         is_still(cells, first) && is_still(cells, second)
     }
 
-    /// A job takes the change at a place, as `step` says, with these blocks.
+    /// A job takes the change at a place, as `step` says, with these blocks. Walks the entries to
+    /// the place.
     pub fn dispatch(&mut self, place: u64, first: Option<u64>, second: Option<u64>) -> Taken<S, B>
         requires ready { step_at (view_of self.old) place ≡ takes first second }
         requires still { are_still (view_of self.old).cells first second ≡ true }

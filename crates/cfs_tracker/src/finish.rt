@@ -20,7 +20,8 @@ use cfs_file::Span;
 
 impl<S: Drop, D: Drop, B: Drop> Tracker<S, D, B> {
     /// Whether the entry at a place wants no block behind those of its job, so that it is to be
-    /// retired once its job is through; else more is to come.
+    /// retired once its job is through; else more is to come. Walks the entries to the place, and
+    /// the blocks of its span behind those that are done.
     pub fn is_last(&self, place: u64) -> bool
         ensures { result ≡ is_last (view_of self.now) place }
     {
@@ -30,14 +31,16 @@ impl<S: Drop, D: Drop, B: Drop> Tracker<S, D, B> {
         )
     }
 
-    /// The size word as it reads, in bytes, and whether it has that value in every image.
+    /// The size word as it reads, in bytes, and whether it has that value in every image. Walks
+    /// nothing.
     pub fn size(&self) -> (u64, bool)
         ensures { result ≡ ((view_of self.now).stored, (view_of self.now).is_sure) }
     {
         (self.stored, self.is_sure)
     }
 
-    /// What the size word is to be for the entry at a place, in bytes.
+    /// What the size word is to be for the entry at a place, in bytes. Walks the entries to the
+    /// place.
     pub fn size_after(&self, place: u64) -> u64
         ensures { result ≡ size_after (view_of self.now) place }
     {
@@ -47,6 +50,7 @@ impl<S: Drop, D: Drop, B: Drop> Tracker<S, D, B> {
         }
     }
 
+<<<<<<< HEAD
     /// The positions of the entry at a place.
     pub fn span(&self, place: u64) -> Span
         ensures { result ≡ span_in (entry_at (view_of self.now).entries place) }
@@ -58,6 +62,9 @@ impl<S: Drop, D: Drop, B: Drop> Tracker<S, D, B> {
     }
 
     /// Whether the entry at a place is out with these blocks.
+=======
+    /// Whether the entry at a place is out with these blocks. Walks the entries to the place.
+>>>>>>> b18bd84383332041d8d3a2a4301495493047d0e8
     pub fn is_out(&self, place: u64, first: &Option<Tile<B>>, second: &Option<Tile<B>>) -> bool
         ensures { IsTrue result ↔ IsOut (view_of self.now) place first.now second.now }
     {
@@ -70,7 +77,7 @@ impl<S: Drop, D: Drop, B: Drop> Tracker<S, D, B> {
 
     /// The entry at a place is retired: its job was through, the size word is as `size_after` says,
     /// and its gate is closed. Between the two steps, where the size word is set and the gate is as
-    /// it was, the core is the one after the end that `sized` names.
+    /// it was, the core is the one after the end that `sized` names. Walks the entries twice.
     pub fn retired(&mut self, place: u64, first: Option<Tile<B>>, second: Option<Tile<B>>)
         requires out { IsOut (view_of self.old) place first second }
         requires last { is_last (view_of self.old) place ≡ true }
@@ -92,6 +99,7 @@ impl<S: Drop, D: Drop, B: Drop> Tracker<S, D, B> {
     }
 
     /// The blocks of the job at a place are done, and more are to come: the entry waits again.
+    /// Walks the entries to the place.
     pub fn more(&mut self, place: u64, slots: S, first: Option<Tile<B>>, second: Option<Tile<B>>)
         requires { IsOut (view_of self.old) place first second }
         ensures view { view_of self.new ≡ more place slots first second (view_of self.old) }
@@ -107,7 +115,7 @@ impl<S: Drop, D: Drop, B: Drop> Tracker<S, D, B> {
     }
 
     /// The job at a place is put back, however far it came, or the size word could not be written
-    /// for it: the entry waits again.
+    /// for it: the entry waits again. Walks the entries to the place.
     pub fn put_back(
         &mut self,
         place: u64,
@@ -128,7 +136,7 @@ impl<S: Drop, D: Drop, B: Drop> Tracker<S, D, B> {
     }
 
     /// The size word was written for the entry at a place, and may have its old value or the new
-    /// one: the entry waits again.
+    /// one: the entry waits again. Walks the entries to the place twice.
     pub fn size_unsure(
         &mut self,
         place: u64,
@@ -150,7 +158,7 @@ impl<S: Drop, D: Drop, B: Drop> Tracker<S, D, B> {
     }
 
     /// The size word was set for the entry at a place, whose job was through, and its gate may be
-    /// open or closed: the entry waits again, and is applied.
+    /// open or closed: the entry waits again, and is applied. Walks the entries to the place twice.
     pub fn applied(&mut self, place: u64, slots: S, first: Option<Tile<B>>, second: Option<Tile<B>>)
         requires out { IsOut (view_of self.old) place first second }
         requires last { is_last (view_of self.old) place ≡ true }

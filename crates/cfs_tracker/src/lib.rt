@@ -25,6 +25,7 @@ mod listing;
 mod mark;
 mod new;
 mod parts;
+mod passed;
 mod pending;
 mod reading;
 mod reads;

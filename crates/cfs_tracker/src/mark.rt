@@ -27,7 +27,8 @@ fn marked_doing<S>(slots: S, kept: bool) -> Doing<S>
 
 impl<S: Drop, D: Drop, B: Drop> Tracker<S, D, B> {
     /// The first waiting entry behind the place `after` that the live entry at `by` covers, and
-    /// that no read between the two overlaps.
+    /// that no read between the two overlaps. Walks the entries twice, and the reads for each
+    /// waiting one that is covered.
     pub fn next_mark(&self, by: u64, after: u64) -> Option<u64>
         ensures { result ≡ next_mark (view_of self.now) by after }
     {
@@ -49,7 +50,7 @@ impl<S: Drop, D: Drop, B: Drop> Tracker<S, D, B> {
     }
 
     /// Takes the slots of the change that waits at a place out, to be marked; none exactly where no
-    /// change waits there with its slots. `marked` comes next.
+    /// change waits there with its slots. `marked` comes next. Walks the entries to the place twice.
     pub fn take_waiting(&mut self, place: u64) -> Option<S>
         ensures slots { result ≡ waiting_slots (entry_at (view_of self.old).entries place) }
         ensures taken { OnSome result (view_of self.new ≡ marking place (view_of self.old)) }
@@ -78,7 +79,7 @@ impl<S: Drop, D: Drop, B: Drop> Tracker<S, D, B> {
     }
 
     /// Whether the slots of the change at a place are out to be marked, and the live entry at `by`
-    /// covers it, with no read between that overlaps it.
+    /// covers it, with no read between that overlaps it. Walks the entries to both, and the reads.
     pub fn is_marking_by(&self, place: u64, by: u64) -> bool
         ensures { result ≡ is_marking_by (view_of self.now) place by }
     {
@@ -92,7 +93,8 @@ impl<S: Drop, D: Drop, B: Drop> Tracker<S, D, B> {
 
     /// The slots that `take_waiting` gave come back: the change at the place is a no-op, covered by
     /// the later one at `by`, or, where that was not kept, its mark failed. That is an event where
-    /// the later one may cover it, as it may where `next_mark` named the place.
+    /// the later one may cover it, as it may where `next_mark` named the place. Walks the entries to
+    /// the place.
     pub fn marked(&mut self, place: u64, by: u64, slots: S, kept: bool)
         ensures view { view_of self.new ≡ marked place slots kept (view_of self.old) }
         ensures room { KeepsRoom self.old self.new }

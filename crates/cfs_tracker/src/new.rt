@@ -26,7 +26,8 @@ fn holes<B: Drop>(alloc: Global) -> Result<Vec<Cell<B>>, NoMemory>
 }
 
 impl<S: Drop, D: Drop, B: Drop> Tracker<S, D, B> {
-    /// A tracker of an empty file without blocks.
+    /// A tracker of an empty file without blocks. Takes memory for a cell for each block of a file,
+    /// and walks them.
     pub fn new(alloc: Global) -> Result<Tracker<S, D, B>, NoMemory>
         ensures view { IfOk result (λ tracker. view_of tracker ≡ stored_view 0) }
         ensures follows { IfOk result (λ tracker.
@@ -36,6 +37,7 @@ impl<S: Drop, D: Drop, B: Drop> Tracker<S, D, B> {
     }
 
     /// A tracker of a stored file of so many bytes, whose blocks are brought in by `bring`.
+    /// Takes the memory, and walks the cells, as `new` does.
     pub fn stored(alloc: Global, bytes: u64) -> Result<Tracker<S, D, B>, NoMemory>
         ensures { IfOk result (λ tracker. view_of tracker ≡ stored_view bytes) }
     {
@@ -52,7 +54,7 @@ impl<S: Drop, D: Drop, B: Drop> Tracker<S, D, B> {
         })
     }
 
-    /// Brings in the block that is tagged for a block of the file.
+    /// Brings in the block that is tagged for a block of the file. Walks nothing.
     pub fn bring(&mut self, block: u64, home: B)
         requires { block < FILE_BLOCKS }
         ensures view { view_of self.new ≡ with_cell block (kinds.Home home) (view_of self.old) }
@@ -63,6 +65,7 @@ impl<S: Drop, D: Drop, B: Drop> Tracker<S, D, B> {
 
     /// Takes the memory for one change and one read more. No call but this one and those that make
     /// a tracker takes any. Without memory there is no less room than before.
+    /// Where a vector is full, it is moved.
     pub fn reserve(&mut self) -> Result<(), NoMemory>
         ensures view { view_of self.new ≡ view_of self.old }
         ensures room { KeepsRoom self.old self.new }

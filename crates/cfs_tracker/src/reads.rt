@@ -17,7 +17,7 @@ use crate::{Reading, Tracker};
 use cfs_file::{Request, span_of};
 
 impl<S: Drop, D: Drop, B: Drop> Tracker<S, D, B> {
-    /// A read or a sync takes the next place.
+    /// A read or a sync takes the next place. Walks nothing.
     pub fn admit_read(&mut self, request: &Request) -> Reading
         requires query { is_query request.now ≡ true }
         requires places { (view_of self.old).count + 1 < 2 ^ 64 }
@@ -49,7 +49,7 @@ impl<S: Drop, D: Drop, B: Drop> Tracker<S, D, B> {
         }
     }
 
-    /// The read or sync of a place that is not answered yet.
+    /// The read or sync of a place that is not answered yet. Walks the reads to the place.
     pub fn read(&self, place: u64) -> Option<Reading>
         ensures { result ≡ read_at (view_of self.now).reads place }
     {
@@ -58,7 +58,8 @@ impl<S: Drop, D: Drop, B: Drop> Tracker<S, D, B> {
 
     /// What the read at a place waits for: the first earlier live entry that overlaps it, for a
     /// sync the first earlier live entry; else the first entry whose job has a block that it needs.
-    /// None exactly where it waits for nothing, or the place has no read.
+    /// None exactly where it waits for nothing, or the place has no read. Walks the reads to the
+    /// place, and the entries twice.
     pub fn read_blocker(&self, place: u64) -> Option<u64>
         ensures { result ≡ blocker_of (view_of self.now).entries
             (read_at (view_of self.now).reads place) }
@@ -67,7 +68,7 @@ impl<S: Drop, D: Drop, B: Drop> Tracker<S, D, B> {
         blocker_of_read(self.entries.as_slice(), &read)
     }
 
-    /// The read at a place got its answer. It waits for nothing.
+    /// The read at a place got its answer. It waits for nothing. Walks the reads once.
     pub fn served(&mut self, place: u64)
         requires there { is_some (read_at (view_of self.old).reads place) ≡ true }
         requires ready { blocker_of (view_of self.old).entries
@@ -82,7 +83,7 @@ impl<S: Drop, D: Drop, B: Drop> Tracker<S, D, B> {
         drop_read(&mut self.reads, place);
     }
 
-    /// The read at a place is dropped.
+    /// The read at a place is dropped. Walks the reads once.
     pub fn dropped(&mut self, place: u64)
         requires { is_some (read_at (view_of self.old).reads place) ≡ true }
         ensures view { view_of self.new ≡ read_ended place (view_of self.old) }

@@ -12,7 +12,7 @@ ghost use Rattle.cfs_tracker.specs.View.{KeepsRoom, view_of};
 use crate::Tracker;
 
 impl<S: Drop, D: Drop, B: Drop> Tracker<S, D, B> {
-    /// Whether a request is in doubt.
+    /// Whether a request is in doubt. Walks nothing, as all calls on it.
     pub fn is_in_doubt(&self) -> bool
         ensures { result ≡ is_some (view_of self.now).doubt }
     {

@@ -14,7 +14,8 @@ use crate::{Doing, Tracker};
 
 impl<S: Drop, D: Drop, B: Drop> Tracker<S, D, B> {
     /// Takes the slots of the no-op at a place out, to be closed; none exactly where no no-op with
-    /// its slots has the place. `skipped` or `put_covered` comes next.
+    /// its slots has the place. `skipped` or `put_covered` comes next. Walks the entries to the
+    /// place twice.
     pub fn take_covered(&mut self, place: u64) -> Option<S>
         ensures slots { result ≡ covered_slots (entry_at (view_of self.old).entries place) }
         ensures taken { OnSome result (view_of self.new ≡ closing place (view_of self.old)) }
@@ -42,7 +43,8 @@ impl<S: Drop, D: Drop, B: Drop> Tracker<S, D, B> {
         }
     }
 
-    /// The slots that `take_covered` gave could not be closed, and come back.
+    /// The slots that `take_covered` gave could not be closed, and come back. Walks the entries to
+    /// the place.
     pub fn put_covered(&mut self, place: u64, slots: S)
         requires { is_closing (entry_at (view_of self.old).entries place) ≡ true }
         ensures view { view_of self.new ≡ unclosed place slots (view_of self.old) }
@@ -53,7 +55,7 @@ impl<S: Drop, D: Drop, B: Drop> Tracker<S, D, B> {
         redo(&mut self.entries, place, Doing::Covered(slots));
     }
 
-    /// The slots that `take_covered` gave were closed.
+    /// The slots that `take_covered` gave were closed. Walks the entries once.
     pub fn skipped(&mut self, place: u64)
         requires { is_closing (entry_at (view_of self.old).entries place) ≡ true }
         ensures view { view_of self.new ≡ skipped place (view_of self.old) }

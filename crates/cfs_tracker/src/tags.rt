@@ -40,7 +40,8 @@ fn take_from<B: Drop>(cell: &mut Cell<B>) -> Option<B>
 
 impl<S: Drop, D: Drop, B: Drop> Tracker<S, D, B> {
     /// Takes the block out that is kept for a block of the file, to be tagged again, where its tag
-    /// is unsure, or given up; none exactly where none is kept. `tagged` or `trimmed` comes next.
+    /// is unsure, or given up; none exactly where none is kept. `tagged` or `trimmed` comes next. Walks
+    /// nothing.
     pub fn take_block(&mut self, block: u64) -> Option<B>
         requires { block < FILE_BLOCKS }
         ensures block { result ≡ held_in (cell_at (view_of self.old).cells block) }
@@ -54,7 +55,7 @@ impl<S: Drop, D: Drop, B: Drop> Tracker<S, D, B> {
     }
 
     /// Whether a zero block may be tagged for a block of the file: no block is tagged for it in
-    /// every image, and none is kept here.
+    /// every image, and none is kept here. Walks nothing.
     pub fn is_bare(&self, block: u64) -> bool
         ensures { IsTrue result ↔
             ((block < FILE_BLOCKS) × (is_bare (cell_at (view_of self.now).cells block) ≡ true)) }
@@ -67,7 +68,7 @@ impl<S: Drop, D: Drop, B: Drop> Tracker<S, D, B> {
     }
 
     /// A zero block was tagged for a block of the file, or, where that was not kept, its tag
-    /// failed.
+    /// failed. Walks nothing.
     pub fn tagged(&mut self, block: u64, home: B, kept: bool)
         requires block { block < FILE_BLOCKS }
         requires bare { is_bare (cell_at (view_of self.old).cells block) ≡ true }

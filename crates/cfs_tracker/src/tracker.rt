@@ -1,15 +1,19 @@
-//! The state of an inode.
+//! What is known of one inode at run time.
 
 ghost use Rattle.std.specs.Prelude.{◌≡◌, length};
 ghost use Rattle.cfs_file.specs.declared.sizes.TheConstants.{FILE_BLOCKS};
 
 use crate::{Cell, InDoubt, Pending, Reading};
 
-/// What the run time knows of one inode. `S` is what holds a live request, `D` what holds one in
-/// doubt, and `B` is a block of the medium; none of them is looked at.
+/// What is known of one inode at run time: the changes and reads that are pending, what stands for
+/// each block of the file, the request in doubt, how many places were given, the length of the file
+/// and the size word. `S` is what holds a live request, `D` what holds one in doubt, and `B` is a
+/// block of the medium; none of them is looked at.
 ///
-/// A call walks what is pending and, of the file's blocks, those of one span; `next_work` does so for
-/// each entry behind the place, and `next_trim` walks all blocks of the file.
+/// A look-up by place walks what is pending once. `next_work` and `next_trim` also walk it for what
+/// comes before the answer, to the first that stands in its way, and `next_mark` walks the reads for
+/// each change that is covered. Of the file's blocks a call walks those of one span, `next_trim`
+/// those from the stored size on.
 #[derive(Debug, Drop)]
 pub struct Tracker<S, D, B> {
     /// How many places were given.

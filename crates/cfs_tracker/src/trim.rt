@@ -81,7 +81,7 @@ impl<S: Drop, D: Drop, B: Drop> Tracker<S, D, B> {
     }
 
     /// Whether the block is one of the file's and begins at or past the stored size, and no live
-    /// entry and no request in doubt has a position of it.
+    /// entry and no request in doubt has a position of it. Walks the entries.
     pub fn is_past(&self, block: u64) -> bool
         ensures { result ≡ is_past (view_of self.now) block }
     {
@@ -98,7 +98,7 @@ impl<S: Drop, D: Drop, B: Drop> Tracker<S, D, B> {
     }
 
     /// The block that `take_block` gave, past the stored size, is given up; or, where its tag could
-    /// not be taken away, it is left with a tag that is unsure.
+    /// not be taken away, it is left with a tag that is unsure. Walks nothing.
     pub fn trimmed(&mut self, block: u64, left: Option<B>)
         requires past { is_past (view_of self.old) block ≡ true }
         requires moving { is_moving (cell_at (view_of self.old).cells block) ≡ true }

@@ -2,19 +2,14 @@
 
 ghost use Rattle.std.specs.Prelude.{◌≡◌, ◌&&◌, Some, find, nat_lt, option_copied, option_map};
 ghost use Rattle.std.specs.List.{list_any};
-ghost use Rattle.cfs_tracker.specs.Dispatch.{step_of};
+ghost use Rattle.cfs_tracker.specs.Passed.{IsOf};
 ghost use Rattle.cfs_tracker.specs.View.{entry_at, view_of};
-ghost use Rattle.cfs_tracker.specs.Work.{is_noop_doing, is_to_do, is_waiting_read, next_work, read_waits, takes_now, work_of};
+ghost use Rattle.cfs_tracker.specs.Work.{is_noop_doing, is_to_do, is_waiting_read, next_work, read_waits, work_of};
 
 use crate::find::entry_of;
-use crate::{Doing, Pending, Reading, Step, Tracker, Work};
+use crate::passed::Passed;
+use crate::{Doing, Pending, Reading, Tracker, Work};
 use cfs_file::overlaps;
-
-fn takes_now(step: Step) -> bool
-    ensures { result ≡ takes_now step }
-{
-    matches!(step, Step::Takes { .. })
-}
 
 fn is_noop<S>(doing: &Doing<S>) -> bool
     ensures { result ≡ is_noop_doing doing.now }
@@ -39,6 +34,10 @@ fn has_waiting_read<S>(reads: &[Reading], entry: &Pending<S>) -> bool
 impl<S: Drop, D: Drop, B: Drop> Tracker<S, D, B> {
     /// The first place behind `after` that is a no-op with its slots, or a change that a job may
     /// take.
+    ///
+    /// It walks the entries to the answer once, and compares each with at most eight stretches of
+    /// those that it has passed. For the answer, and for a change before it that overlaps none of
+    /// these, it also walks the blocks of the span, the reads, and the entries to what is ahead.
     pub fn next_work(&self, after: u64) -> Option<Work>
         ensures { result ≡ next_work (view_of self.now) after }
     {
@@ -53,15 +52,21 @@ impl<S: Drop, D: Drop, B: Drop> Tracker<S, D, B> {
             find (λ e. nat_lt after e.place && is_to_do (view_of self.now) e)
             (view_of self.now).entries }
     {
-        self.entries
-            .iter()
-            .find(|entry| after < entry.place && self.is_to_do(entry))
+        let mut passed = Passed::new();
+        for entry in self.entries.iter() {
+            if self.is_next(after, entry, &passed) {
+                return Some(entry);
+            }
+            passed.pass(entry);
+        }
+        None
     }
 
-    fn is_to_do(&self, entry: &Pending<S>) -> bool
-        ensures { result ≡ is_to_do (view_of self.now) entry.now }
+    fn is_next(&self, after: u64, entry: &Pending<S>, passed: &Passed) -> bool
+        requires { IsOf (view_of self.now).entries passed.now }
+        ensures { result ≡ (nat_lt after entry.now.place && is_to_do (view_of self.now) entry.now) }
     {
-        is_noop(&entry.doing) || takes_now(self.step_of(entry))
+        after < entry.place && (is_noop(&entry.doing) || self.may_take(entry, passed))
     }
 
     fn work_of(&self, entry: &Pending<S>) -> Work
@@ -74,14 +79,14 @@ impl<S: Drop, D: Drop, B: Drop> Tracker<S, D, B> {
         }
     }
 
-    /// The entry of a place.
+    /// The entry of a place. Walks the entries to it.
     pub fn entry(&self, place: u64) -> Option<&Pending<S>>
         ensures { option_copied result ≡ entry_at (view_of self.now).entries place }
     {
         entry_of(self.entries.as_slice(), place)
     }
 
-    /// The first entry behind a place.
+    /// The first entry behind a place. Walks the entries to it.
     pub fn next_entry(&self, after: u64) -> Option<&Pending<S>>
         ensures { option_copied result ≡
             find (λ e. nat_lt after e.place) (view_of self.now).entries }

@@ -195,9 +195,56 @@ fn more_than_two_blocks(alloc: Global, rt: &impl Abort) -> Result<(), NoMemory> 
     Ok(())
 }
 
+/// Admits a write of so many bytes, and answers its place; 0 where it may not be admitted.
+fn admit_write(
+    alloc: Global,
+    tracker: &mut Plain,
+    offset: u64,
+    count: usize,
+) -> Result<u64, NoMemory> {
+    let change = write(alloc, offset, count)?;
+    admit(tracker, &change, 1)
+}
+
+/// Ten changes apart from one another are out; one more waits for the last of them.
+fn behind_ten_jobs(alloc: Global, rt: &impl Abort) -> Result<(), NoMemory> {
+    let mut tracker: Plain = Tracker::new(alloc)?;
+    for block in 0..10 {
+        tag(&mut tracker, block, 7);
+        let place = admit_write(alloc, &mut tracker, 4096 * block, 4096)?;
+        assert_eq!(rt; place, block + 1);
+    }
+    assert_eq!(rt; admit_write(alloc, &mut tracker, 4096 * 9 + 4000, 96)?, 11);
+    let mut last = None;
+    for place in 1..11 {
+        last = dispatch(&mut tracker, place);
+    }
+    assert_eq!(rt; tracker.next_work(0), None);
+    let Some(taken) = last else {
+        assert!(rt; false);
+        return Ok(());
+    };
+    assert!(rt; finish(&mut tracker, 10, taken));
+    assert_eq!(rt;
+        tracker.next_work(0),
+        Some(Work {
+            place: 11,
+            is_noop: false,
+            read_waits: false
+        })
+    );
+    Ok(())
+}
+
 #[test]
 fn a_change_waits_for_what_is_before_it(rt: HostRuntime) -> Result<(), Fail> {
     one_after_another(rt.alloc(), &rt)?;
+    Ok(())
+}
+
+#[test]
+fn a_change_waits_behind_many_jobs(rt: HostRuntime) -> Result<(), Fail> {
+    behind_ten_jobs(rt.alloc(), &rt)?;
     Ok(())
 }
 

@@ -2,13 +2,14 @@ use Rattle.std.proofs.Common.{◌≡◌, ◌∙◌, [], ◌∷◌, map, None, So
 use Rattle.std.specs.Prelude.{is_some}
 use Rattle.cfs_core.specs.declared.event.Event.TheVariants as events
 use Rattle.cfs_slot.specs.Regions.{head_of, of_doubt, of_slots, tails_of_doubt}
+use Rattle.cfs_tracker.specs.Settle.{doubt_slots}
 use Rattle.cfs_tracker.specs.View.{TrackerView, view_of}
 use Rattle.cfs_inode.specs.View.{StateView, seens_of, state_view}
 use Rattle.cfs_inode.specs.Makes.{CallMakes}
 use Rattle.cfs_inode.proofs.Closings.{closes-err, closes-ok}
 use Rattle.cfs_inode.proofs.Resting.{rests}
 use Rattle.cfs_inode.proofs.Settlings.{settle-done, settle-failed}
-use Rattle.cfs_inode.proofs.States.{some-taken, state-doubt, state-same, state-settled, state-unsettled, view-settling}
+use Rattle.cfs_inode.proofs.States.{some-taken, state-doubt, state-same, state-settled, state-unsettled, taken-out, view-settling}
 use Rattle.cfs_inode.proofs.settle.InodeState+R+B.settle.Goals as goal
 
 pub returns-in_default-clause-settles : goal.returns-in_default-clause-settles
@@ -29,15 +30,25 @@ returns-in_default-clause-makes g c =
     let asked = g.P.Power.asked c.args.power.now in
     subst (λ (s : StateView). CallMakes [] asked old asked s) (sym did.1.1) (rests old asked)
 
-pub settled-requires : goal.settled-requires
-settled-requires g c =
+pub settled-requires-clause-doubt : goal.settled-requires-clause-doubt
+settled-requires-clause-doubt g c =
     subst (λ (v : TrackerView _ _ _). is_some v.doubt ≡ true) (sym c.in-Some.ensures.taken)
     (some-taken (view_of c.args.self.now.tracker).doubt c.in-Some.doubt c.in-Some.ensures.slots)
 
-pub put_doubt-requires : goal.put_doubt-requires
-put_doubt-requires g c =
+pub settled-requires-clause-out : goal.settled-requires-clause-out
+settled-requires-clause-out g c =
+    subst (λ (v : TrackerView _ _ _). doubt_slots v.doubt ≡ None) (sym c.in-Some.ensures.taken)
+    (taken-out (view_of c.args.self.now.tracker).doubt)
+
+pub put_doubt-requires-clause-doubt : goal.put_doubt-requires-clause-doubt
+put_doubt-requires-clause-doubt g c =
     subst (λ (v : TrackerView _ _ _). is_some v.doubt ≡ true) (sym c.in-Some.ensures.taken)
     (some-taken (view_of c.args.self.now.tracker).doubt c.in-Some.doubt c.in-Some.ensures.slots)
+
+pub put_doubt-requires-clause-out : goal.put_doubt-requires-clause-out
+put_doubt-requires-clause-out g c =
+    subst (λ (v : TrackerView _ _ _). doubt_slots v.doubt ≡ None) (sym c.in-Some.ensures.taken)
+    (taken-out (view_of c.args.self.now.tracker).doubt)
 
 pub returns-in-Ok-clause-settles : goal.returns-in-Ok-clause-settles
 returns-in-Ok-clause-settles g c = (
