@@ -3,9 +3,9 @@
 
 mod answers;
 mod covering;
+mod mapped;
 mod mark;
 mod mark_answer;
-mod mapped;
 mod new;
 mod open;
 mod parts;
@@ -14,14 +14,12 @@ mod reads;
 mod settle;
 mod skip;
 mod state;
+mod telling;
 mod trim;
 mod trim_answer;
 
 pub use answers::CloseAnswer;
-pub use mark_answer::MarkAnswer;
-mod telling;
-
-pub use answers::CloseAnswer;
 pub use mapped::Mapped;
+pub use mark_answer::MarkAnswer;
 pub use state::{InodeState, State};
 pub use trim_answer::TrimAnswer;
