@@ -1,6 +1,9 @@
+pub mod Changes
 pub mod Faults
 pub mod Fields
+pub mod Journals
 pub mod Places
 pub mod Refusals
 pub mod Sizes
 pub mod Tables
+pub mod SoFar
