@@ -11,4 +11,5 @@ pub mod WholeLemmas
 pub mod ChangeLemmas
 pub mod WalkLemmas
 pub mod PlacedLemmas
+pub mod TagLemmas
 pub mod ReachedLemmas

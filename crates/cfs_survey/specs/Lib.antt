@@ -7,3 +7,5 @@ pub mod Refusals
 pub mod Sizes
 pub mod Tables
 pub mod SoFar
+pub mod Mapped
+pub mod Tags

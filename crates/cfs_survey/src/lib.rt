@@ -12,6 +12,7 @@ mod recovered;
 mod refusal;
 mod sizes;
 mod table;
+mod tags;
 mod tree_so_far;
 
 pub use changes::RECORD_WORDS;
@@ -21,3 +22,4 @@ pub use recovered::Recovered;
 pub use refusal::SurveyRefusal;
 pub use sizes::check_sizes;
 pub use table::read_table;
+pub use tags::read_tags;

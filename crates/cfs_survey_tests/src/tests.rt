@@ -1,2 +1,3 @@
 mod journal;
 mod tables;
+mod tags;
