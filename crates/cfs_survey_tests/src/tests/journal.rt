@@ -161,7 +161,7 @@ fn the_first_fault_of_a_journal_is_named(rt: HostRuntime) -> Result<(), Fail> {
 fn a_new_node_has_at_most_sixteen_parents(rt: HostRuntime) -> Result<(), Fail> {
     for (parent, want) in [(16, "next=301 last=1"), (17, "49232 300 16")] {
         let mut records = [[0; RECORD_WORDS]; 64];
-        records[0] = [1, 1, 20, 300, parent, 1, 0, 0, 0, 1, 100, 0, 0, 0, 0, 0];
+        records[0] = [1, 1, 20, 300, parent, 1, 0, 0, 0, 1, 101, 0, 0, 0, 0, 0];
         let given = answer(rt.alloc(), &nested(rt.alloc(), 17)?, 0, &records)?;
         assert!(rt; given.as_str().ends_with(want), "parent {parent}");
     }
