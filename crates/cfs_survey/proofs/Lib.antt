@@ -8,3 +8,8 @@ pub mod RowLemmas
 pub mod RecordLemmas
 pub mod TwinLemmas
 pub mod WholeLemmas
+pub mod ChangeLemmas
+pub mod WalkLemmas
+pub mod PlacedLemmas
+pub mod TagLemmas
+pub mod ReachedLemmas

@@ -1,12 +1,12 @@
 -- The refusals of checks that are put together.
-use Rattle.std.proofs.Common.{◌≡◌, List, ◌++◌, sym, ◌∙◌, subst}
-use Rattle.std.specs.Prelude.{None, Result, Err, IfErr}
+use Rattle.std.proofs.Common.{◌≡◌, ℕ, ◌+◌, ◌<◌, List, ◌++◌, sym, ◌∙◌, subst}
+use Rattle.std.specs.Prelude.{None, Result, Ok, Err, IfErr}
 use Rattle.cfs_image.specs.Checks.{Check, damage_of}
 use Rattle.cfs_survey.specs.declared.refusal.SurveyRefusal.{SurveyRefusal}
 use Rattle.cfs_survey.specs.declared.refusal.SurveyRefusal.TheVariants.{Damaged, NoMemory}
-use Rattle.cfs_survey.specs.Faults.{damage_in}
+use Rattle.cfs_survey.specs.Faults.{checks_from, damage_in}
 use Rattle.cfs_survey.specs.Refusals.{Refuses}
-use Rattle.cfs_survey.proofs.FirstFaults.{before_others, behind_sound}
+use Rattle.cfs_survey.proofs.FirstFaults.{before_others, behind_sound, fails_at}
 
 pub refused_behind : (xs ys : List Check) (refusal : SurveyRefusal) → damage_of xs ≡ None → Refuses ys refusal → Refuses (xs ++ ys) refusal
 refused_behind xs ys (Damaged fault) sound h = behind_sound xs ys sound ∙ h
@@ -19,3 +19,15 @@ refused_before xs ys NoMemory h = tt
 pub refused_with : {T : Type 0} (r : Result T SurveyRefusal) (checks : List Check) (y refusal : SurveyRefusal) → r ≡ Err y → y ≡ refusal
     → Refuses checks refusal → IfErr r (Refuses checks)
 refused_with r checks y refusal e same h = subst (λ x. IfErr x (Refuses checks)) (sym e) (subst (Refuses checks) (sym same) h)
+
+-- the first number whose checks are refused
+pub refused_at : (each : ℕ → List Check) (from k n at : ℕ) (refusal : SurveyRefusal) → from + k ≡ at → k < n
+    → damage_of (checks_from each from k) ≡ None → Refuses (each at) refusal → Refuses (checks_from each from n) refusal
+refused_at each from k n at (Damaged fault) e below before h = fails_at each from k n at (damage_in fault) e below before h
+refused_at each from k n at NoMemory e below before h = tt
+
+-- checks that name the same damage
+pub refused_same : {T : Type 0} (xs ys : List Check) (r : Result T SurveyRefusal) → damage_of xs ≡ damage_of ys → IfErr r (Refuses xs) → IfErr r (Refuses ys)
+refused_same xs ys (Ok x) e h = tt
+refused_same xs ys (Err (Damaged fault)) e h = sym e ∙ h
+refused_same xs ys (Err NoMemory) e h = tt

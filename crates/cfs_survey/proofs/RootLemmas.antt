@@ -8,7 +8,7 @@ use Rattle.cfs_dir.specs.Tree.{leads_to_root}
 use Rattle.std.proofs.lemmas.Bool.{eqb-true, cases_Bool}
 use Rattle.std.proofs.Common.{inl, inr}
 
-unequal : (a b : ℕ) → a ≢ b → (a == b) ≡ false
+pub unequal : (a b : ℕ) → a ≢ b → (a == b) ≡ false
 unequal a b h = elim (cases_Bool (a == b)) [ inl t ↦ absurd (h (eqb-true a b t)) | inr f ↦ f ]
 
 pub at_root : (steps : ℕ) (nodes : List Node) (ino : ℕ) → ino ≡ 1 → leads_to_root steps nodes ino ≡ true

@@ -1,6 +1,11 @@
+pub mod Changes
 pub mod Faults
 pub mod Fields
+pub mod Journals
 pub mod Places
 pub mod Refusals
 pub mod Sizes
 pub mod Tables
+pub mod SoFar
+pub mod Mapped
+pub mod Tags

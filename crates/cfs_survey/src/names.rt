@@ -11,7 +11,7 @@ use byteorder::{ByteOrder, LittleEndian};
 use cfs_dir::{LONGEST_NAME, NODE_WORDS, Name};
 
 /// The bytes that a node's words have room for in its name.
-fn name_room(words: &[u64; NODE_WORDS]) -> [u8; LONGEST_NAME]
+pub(crate) fn name_room(words: &[u64; NODE_WORDS]) -> [u8; LONGEST_NAME]
     ensures { result ≡ name_room words.now }
 {
     let mut room = [0; LONGEST_NAME];

@@ -18,7 +18,7 @@ pub(crate) fn node_of(nodes: &[Node], ino: u64) -> Option<&Node>
 }
 
 /// Whether an inode number is that of a directory.
-fn names_directory(nodes: &[Node], ino: u64) -> bool
+pub(crate) fn names_directory(nodes: &[Node], ino: u64) -> bool
     ensures { result ≡ names_directory nodes.now ino }
 {
     match node_of(nodes, ino) {
@@ -37,7 +37,7 @@ fn twin_of<'a>(nodes: &'a [Node], node: &Node) -> Option<&'a Node>
 }
 
 /// Whether at most so many parents lead from an inode number to the root's.
-fn leads_to_root(nodes: &[Node], ino: u64, steps: usize) -> bool
+pub(crate) fn leads_to_root(nodes: &[Node], ino: u64, steps: usize) -> bool
     ensures { result ≡ leads_to_root steps nodes.now ino }
 {
     if ino == 1 {
@@ -63,7 +63,7 @@ pub(crate) fn rec_of(node: Option<&Node>) -> u64
 }
 
 /// Checks where a node stands in a tree. Its words stand at this offset.
-fn check_place(at: u64, nodes: &[Node], node: &Node) -> Result<(), Fault>
+pub(crate) fn check_place(at: u64, nodes: &[Node], node: &Node) -> Result<(), Fault>
     requires { at < 2 ^ 48 }
     ensures { reported result ≡ damage_of (place_checks at nodes.now node.now) }
 {

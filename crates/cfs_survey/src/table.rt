@@ -107,8 +107,8 @@ fn read_records(alloc: Global, at: u64, words: &[u64]) -> Result<Vec<Node>, Surv
     Ok(nodes)
 }
 
-/// The nodes of a table, by ascending record, which are a tree. It has 3073 words, which begin at this offset of an
-/// image, below 2^32.
+/// The nodes of a table, by ascending record, which are a tree. It has 3073 words, which begin at
+/// this offset of an image, below 2^32.
 ///
 /// `Damaged` names the first check that fails: of the next inode number, of each record by itself,
 /// and then of where each node stands.

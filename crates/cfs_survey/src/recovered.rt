@@ -1,0 +1,12 @@
+use cfs_dir::Node;
+
+/// The tree that a table and a journal tell.
+#[derive(Debug, Drop)]
+pub struct Recovered {
+    /// By ascending record.
+    pub nodes: Vec<Node>,
+    /// The next inode number.
+    pub next: u64,
+    /// The number of the last record of the journal that was reached, or that of the table.
+    pub last: u64,
+}
