@@ -61,7 +61,7 @@ on-regions {P} Q blocks distinct gives moments =
 -- ---- an image that is not one of its device
 
 module _ {Form Image : Type 0} (IsImage_ : List Form → Image → Type 0) (P : Image → Type 0) where
-  but-within : (place : ℕ) (olds : List (Seen Form)) (images : List Image) →
+  pub but-within : (place : ℕ) (olds : List (Seen Form)) (images : List Image) →
       IsImageBut IsImage_ P place olds images → place < length images
   but-within place [] images h = absurd h
   but-within zero (seen ∷ rest) [] h = absurd h
@@ -70,7 +70,7 @@ module _ {Form Image : Type 0} (IsImage_ : List Form → Image → Type 0) (P : 
   but-within (suc place) (seen ∷ rest) (image ∷ images) h =
       let below = but-within place rest images h.1 in omega arith
 
-  but-has : (place : ℕ) (olds : List (Seen Form)) (images : List Image) (d : Image) →
+  pub but-has : (place : ℕ) (olds : List (Seen Form)) (images : List Image) (d : Image) →
       IsImageBut IsImage_ P place olds images → P (get_or images place d)
   but-has place [] images d h = absurd h
   but-has zero (seen ∷ rest) [] d h = absurd h
@@ -79,7 +79,7 @@ module _ {Form Image : Type 0} (IsImage_ : List Form → Image → Type 0) (P : 
   but-has (suc place) (seen ∷ rest) (image ∷ images) d h = but-has place rest images d h.1
 
   -- with one of the device in its place, all are images
-  but-other : (place : ℕ) (olds : List (Seen Form)) (images : List Image) (other : Image) →
+  pub but-other : (place : ℕ) (olds : List (Seen Form)) (images : List Image) (other : Image) →
       IsImageBut IsImage_ P place olds images → IsImage_ (seen_at olds place).history other →
       IsEachImage IsImage_ olds (set images place other)
   but-other place [] images other h is = absurd h
