@@ -218,8 +218,16 @@ read-byte ino p blocks = elim (cases_lt (p / BLOCK_LEN) FILE_BLOCKS) [
   | inl within ↦
       let test : nat_lt (p / BLOCK_LEN) FILE_BLOCKS ≡ true = grind (arith, nat_tests) in
       elim (first-or-none ino (p / BLOCK_LEN) blocks) [
-        | inl found ↦ inl (found.0, (within, (found.1.here,
-            chosen true test ∙ ap byte found.1.found)))
+        | inl found ↦ inl (
+          found.0,
+          (
+            within,
+            (
+              found.1.here,
+              chosen true test ∙ ap byte found.1.found,
+            ),
+          ),
+        )
         | inr nowhere ↦ inr (λ less at. nowhere.none at, chosen true test ∙ ap byte nowhere.missing)
       ]
   | inr past ↦

@@ -49,6 +49,16 @@ same-byte : (file : File) (first second : Disk) → second.blocks ≡ first.bloc
 same-byte file first second blocks p =
     ap (λ (bs : List Content). byte_in file.ino bs p) blocks
 
+-- a disk with the same words and blocks
+pub same-stays : (file : File) (start first second : Disk) → Stays file start first →
+    ((node : ℕ) → second.sizes node ≡ first.sizes node) → second.slots ≡ first.slots →
+    second.blocks ≡ first.blocks → Stays file start second
+same-stays file start first second stay sizes slots blocks =
+    let more = moved-stays file first second stay.ready (sizes file.node)
+    (same-slots file first second slots) (same-once file first second slots stay.ready)
+    (λ p out. same-byte file first second blocks p) in
+    record { recovers = more.recovers ∙ stay.recovers; ready = more.ready }
+
 -- ---- steps for the lowest entry of a file
 
 -- a step that keeps one of the files, and each one that has nothing in common with it

@@ -3,3 +3,4 @@ pub mod Slots
 pub mod Blocks
 pub mod Disks
 pub mod Ends
+pub mod Calls

@@ -1,15 +1,21 @@
 -- What the steps of a mount keep.
-use Rattle.std.specs.Prelude.{ℕ, ◌+◌, ◌*◌, ◌<◌, ◌≡◌, ◌⊎◌, ◌==◌, if◌then◌else◌, Some, None, List, [], get_or}
+use Rattle.std.specs.Prelude.{ℕ, length, set, ◌+◌, ◌*◌, ◌<◌, ◌≡◌, ◌⊎◌, ◌==◌, if◌then◌else◌, Some, None, List, [], get_or}
 use Rattle.std.specs.List.{Contains}
 use Rattle.cfs_file.specs.declared.request.Request.{Request}
 use Rattle.cfs_file.specs.declared.sizes.TheConstants.{BLOCK_LEN}
 use Rattle.cfs_core.specs.declared.inode_core.Core.{Core}
 use Rattle.cfs_core.specs.Fresh.{IsFresh}
-use Rattle.cfs_block.specs.BlockImages.{Content}
+use Rattle.cfs_pmem.specs.declared.trace.Asked.{Asked}
+use Rattle.cfs_pmem.specs.AllMoments.{AreDistinct}
+use Rattle.cfs_pmem.specs.Images.{Seen, WordStep, words_of}
+use Rattle.cfs_pmem.specs.Objects.{MomentsOf, seen_at}
+use Rattle.cfs_block.specs.BlockImages.{BlockStep, Content, DiffersWithin, IsBlockImage, with_tag}
+use Rattle.cfs_block.specs.Devices.{numbers_of}
 use Rattle.cfs_slot.specs.Words.{gate_of}
 use Rattle.cfs_medium.specs.Depicts.{content_at}
 use Rattle.cfs_medium.specs.Store.{block_for, entry_at}
-use Rattle.cfs_home.specs.Disks.{AllStay, AreFiles, AreReady, BlocksHold, ChangesBlock, ClosesSlot, Disk, File, IsDead, IsLowest, IsMapped, IsNoNode, IsNoTag, SetsSize, WritesBlocks, part_of, recovered_in, shut, stored_in}
+use Rattle.cfs_home.specs.Calls.{HaveBlocksOf, HaveWordsOf, IsPiece, MountMoments, SetsFirst, SetsTagAt}
+use Rattle.cfs_home.specs.Disks.{AllStay, AreFiles, AreReady, BlocksBeside, BlocksHold, ChangesBlock, ClosesSlot, Disk, File, IsDead, IsLowest, IsMapped, IsNoNode, IsNoTag, SetsSize, WritesBlocks, part_of, recovered_in, shut, stored_in}
 use Rattle.cfs_home.specs.Ends.{AreDrained, IsClosedOrLive, IsDrained, IsLoaded}
 use Rattle.cfs_home.specs.Parts.{BytesMoved, Closed, IsHome, IsPlaced, IsSound, Keeps, Part, SizeMoved, size_after}
 
@@ -134,3 +140,67 @@ LoadedHaveBlocks =
     (file : File) (disk : Disk) (core : Core) (block k : ℕ) (content : Content) →
     IsLoaded file disk core → block_for file.ino block disk.blocks ≡ Some content →
     k < BLOCK_LEN → get_or content.bytes k 0 ≡ get_or core.bytes (BLOCK_LEN * block + k) 0
+
+-- ---- calls on the devices
+
+-- A mount may stop at any moment of a call, where what the call does leaves the files: of writes and
+-- flushes of the blocks of a request,
+abbrev pub WritesMayStop : Type 0
+WritesMayStop =
+    (files : List File) (file : File) (request : Request) (start first : Disk)
+    (regions : List (Seen WordStep)) (old new : List (Seen BlockStep))
+    (asked_old asked_new : List Asked) →
+    ((second : Disk) → WritesBlocks file request first second → AllStay files start second) →
+    HaveWordsOf first regions →
+    AreDistinct (numbers_of (record { regions = regions; blocks = old })) →
+    MomentsOf IsBlockImage (λ contents. BlocksBeside file.ino request first.blocks contents)
+    asked_old old asked_new new →
+    MountMoments files start asked_old (record { regions = regions; blocks = old })
+    asked_new (record { regions = regions; blocks = new })
+
+-- of the setting of a size word,
+abbrev pub SizesMayStop : Type 0
+SizesMayStop =
+    (files : List File) (node size : ℕ) (start first : Disk) (old new : List (Seen WordStep))
+    (blocks : List (Seen BlockStep)) (asked_old asked_new : List Asked) →
+    ((second : Disk) → SetsSize node size first second → AllStay files start second) →
+    AllStay files start first → node < 256 → 0 < length (words_of (seen_at old (67 + node))) →
+    HaveWordsOf first old → HaveBlocksOf first blocks →
+    AreDistinct (numbers_of (record { regions = old; blocks = blocks })) →
+    SetsFirst (67 + node) size asked_old old asked_new new →
+    MountMoments files start asked_old (record { regions = old; blocks = blocks })
+    asked_new (record { regions = new; blocks = blocks })
+
+-- of the closing of a gate,
+abbrev pub ClosesMayStop : Type 0
+ClosesMayStop =
+    (files : List File) (at : ℕ) (start first : Disk) (old new : List (Seen WordStep))
+    (blocks : List (Seen BlockStep)) (asked_old asked_new : List Asked) →
+    ((second : Disk) → ClosesSlot at first second → AllStay files start second) →
+    AllStay files start first → HaveWordsOf first old → HaveBlocksOf first blocks →
+    AreDistinct (numbers_of (record { regions = old; blocks = blocks })) →
+    SetsFirst (323 + at) 0 asked_old old asked_new new →
+    MountMoments files start asked_old (record { regions = old; blocks = blocks })
+    asked_new (record { regions = new; blocks = blocks })
+
+-- and of the setting of a tag.
+abbrev pub TagsMayStop : Type 0
+TagsMayStop =
+    (files : List File) (at tag : ℕ) (start first : Disk) (regions : List (Seen WordStep))
+    (old new : List (Seen BlockStep)) (asked_old asked_new : List Asked) →
+    ((second : Disk) → ChangesBlock at (with_tag tag (content_at first.blocks at)) first second →
+    AllStay files start second) →
+    AllStay files start first → HaveWordsOf first regions → HaveBlocksOf first old →
+    AreDistinct (numbers_of (record { regions = regions; blocks = old })) →
+    SetsTagAt at tag asked_old old asked_new new →
+    MountMoments files start asked_old (record { regions = regions; blocks = old })
+    asked_new (record { regions = regions; blocks = new })
+
+-- A write into such a range of a block, torn or not, leaves the blocks of a request as they may be.
+abbrev pub PiecesAreBeside : Type 0
+PiecesAreBeside =
+    (ino : ℕ) (request : Request) (first contents : List Content) (at from len : ℕ)
+    (content : Content) → IsPiece ino request first at from len →
+    BlocksBeside ino request first contents →
+    DiffersWithin from len (content_at contents at) content →
+    BlocksBeside ino request first (set contents at content)

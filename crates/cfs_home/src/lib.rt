@@ -4,9 +4,10 @@
 //! mount brings a live entry home; `specs/Disks.antt` has all files of an image, and each step of a
 //! mount on its devices; `specs/Ends.antt` has where it ends. `specs/Laws.antt` states what the steps
 //! keep.
+//! `specs/Calls.antt` has the disk that a crash leaves of a store's devices, and calls on these.
 #![tactic(auto)]
 
-ghost use Rattle.cfs_home.specs.Laws.{ClosesKeepAll, DeadSlotsMayClose, EndsAreClosed, EndsAreStored, HeldAreHome, LoadedAreFresh, LoadedAreThere, LoadedHaveBlocks, OtherBlocksMayChange, OtherSizesMayBeSet, PartsAreKept, ShutSlotsAreSwept, ShutSlotsLeaveOthers, SizesKeepAll, StaysGoOn, WritesKeepAll};
+ghost use Rattle.cfs_home.specs.Laws.{ClosesKeepAll, ClosesMayStop, DeadSlotsMayClose, EndsAreClosed, EndsAreStored, HeldAreHome, LoadedAreFresh, LoadedAreThere, LoadedHaveBlocks, OtherBlocksMayChange, OtherSizesMayBeSet, PartsAreKept, PiecesAreBeside, ShutSlotsAreSwept, ShutSlotsLeaveOthers, SizesKeepAll, SizesMayStop, StaysGoOn, TagsMayStop, WritesKeepAll, WritesMayStop};
 
 /// Bytes of the lowest live entry may change, the size word may be set for it, and it may be closed
 /// once it is home: each step keeps the file that a mount finds.
@@ -91,4 +92,30 @@ pub fn loaded_are_there()
 /// Such a core has the bytes of each block that is tagged for the file.
 pub fn loaded_have_blocks()
     ensures { LoadedHaveBlocks }
+{}
+
+/// A write into a range of a block that a request touches, torn or not, leaves the blocks of the
+/// request as they may be.
+pub fn pieces_are_beside()
+    ensures { PiecesAreBeside }
+{}
+
+/// A mount may stop at any moment of the writes and flushes of a request's blocks.
+pub fn writes_may_stop()
+    ensures { WritesMayStop }
+{}
+
+/// And of the setting of a size word.
+pub fn sizes_may_stop()
+    ensures { SizesMayStop }
+{}
+
+/// And of the closing of a gate.
+pub fn closes_may_stop()
+    ensures { ClosesMayStop }
+{}
+
+/// And of the setting of a tag.
+pub fn tags_may_stop()
+    ensures { TagsMayStop }
 {}

@@ -1,0 +1,12 @@
+//! The steps by which a mount brings a live entry home: its blocks are written and flushed, its size
+//! word is set, and its gate is closed.
+//!
+//! Each call says which files a crash leaves at each of its moments, as `cfs_home` has them, and
+//! which devices stand behind it.
+#![tactic(auto)]
+
+mod blocks;
+mod piece;
+
+pub use blocks::{flush_block, write_block};
+pub use piece::Piece;
