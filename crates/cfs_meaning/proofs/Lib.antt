@@ -9,6 +9,7 @@ pub mod Worlds
 pub mod Lines
 pub mod Reached
 pub mod Calm
+pub mod Recorded
 pub mod Orders
 pub mod LineLogs
 pub mod ReadLines

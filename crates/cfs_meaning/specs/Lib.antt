@@ -12,6 +12,7 @@ pub mod Workers
 pub mod Mounting
 pub mod Play
 pub mod Laws
+pub mod Granted
 pub mod Example
 pub mod Scripts
 pub mod Real
