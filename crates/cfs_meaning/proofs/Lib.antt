@@ -11,6 +11,8 @@ pub mod Reached
 pub mod Calm
 pub mod Recorded
 pub mod Orders
+pub mod Tables
+pub mod Granted
 pub mod LineLogs
 pub mod ReadLines
 pub mod Attempts

@@ -1,5 +1,6 @@
 //! What holds of every run, as contracts of functions that do nothing.
 
+ghost use Rattle.cfs_meaning.specs.Granted.{OpenFilesAreGranted};
 ghost use Rattle.cfs_meaning.specs.Laws.{AnswersAreOnly, CalmRunsAnswer, CoresStayReached, FilesAreGood, LogsFollowLines, NamesStayLegal, ReadsAreRight, RunsKeepCores};
 
 /// While a store is mounted, each line makes of the core of each file one that the laws of cores
@@ -23,6 +24,12 @@ pub fn files_are_good()
 /// The requests on names since a mount stay a legal order, whatever a line does.
 pub fn names_stay_legal()
     ensures { NamesStayLegal }
+{}
+
+/// Each open descriptor's grant stands in the table, at its queue and for its caller, so a close is
+/// never refused.
+pub fn open_files_are_granted()
+    ensures { OpenFilesAreGranted }
 {}
 
 /// Each log has its entries in the order of the lines that they come from.

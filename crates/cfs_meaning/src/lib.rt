@@ -16,7 +16,7 @@ pub use images::{load, save};
 pub use laws::{
     answers_are_only, calm_runs_answer, cores_stay_reached,     files_are_good,
     logs_follow_lines, names_stay_legal,
-    reads_are_right, runs_keep_cores, };
+    open_files_are_granted, reads_are_right, runs_keep_cores, };
 pub use line::{crash_line, fail_line, stop_line};
 pub use power::{crash, number_of, plan, stop};
 
