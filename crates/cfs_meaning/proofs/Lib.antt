@@ -13,6 +13,7 @@ pub mod Recorded
 pub mod Orders
 pub mod Tables
 pub mod Granted
+pub mod Changes
 pub mod LineLogs
 pub mod ReadLines
 pub mod Attempts

@@ -1,7 +1,7 @@
 //! What holds of every run, as contracts of functions that do nothing.
 
 ghost use Rattle.cfs_meaning.specs.Granted.{OpenFilesAreGranted};
-ghost use Rattle.cfs_meaning.specs.Laws.{AnswersAreOnly, CalmRunsAnswer, CoresStayReached, FilesAreGood, LogsFollowLines, NamesStayLegal, ReadsAreRight, RunsKeepCores};
+ghost use Rattle.cfs_meaning.specs.Laws.{AnswersAreOnly, CalmRunsAnswer, ChangesMakeSteps, CoresStayReached, FilesAreGood, LogsFollowLines, NamesStayLegal, ReadsAreRight, RunsKeepCores};
 
 /// While a store is mounted, each line makes of the core of each file one that the laws of cores
 /// hold of: so each file's log is legal, and a read is answered by the file before it.
@@ -24,6 +24,11 @@ pub fn files_are_good()
 /// The requests on names since a mount stay a legal order, whatever a line does.
 pub fn names_stay_legal()
     ensures { NamesStayLegal }
+{}
+
+/// The changes that are stored for a request on names make the tree that its step leaves.
+pub fn changes_make_steps()
+    ensures { ChangesMakeSteps }
 {}
 
 /// Each open descriptor's grant stands in the table, at its queue and for its caller, so a close is
