@@ -11,6 +11,13 @@ pub mod Reached
 pub mod Calm
 pub mod Recorded
 pub mod Orders
+pub mod Uncrashed
+pub mod Total
+pub mod TotalNames
+pub mod TotalParts
+pub mod TotalTrims
+pub mod Verdicts
+pub mod TotalLines
 pub mod Tables
 pub mod Granted
 pub mod Changes

@@ -13,6 +13,7 @@ pub mod Mounting
 pub mod Play
 pub mod Laws
 pub mod Granted
+pub mod Answered
 pub mod Example
 pub mod Scripts
 pub mod Real

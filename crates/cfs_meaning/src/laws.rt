@@ -1,5 +1,6 @@
 //! What holds of every run, as contracts of functions that do nothing.
 
+ghost use Rattle.cfs_meaning.specs.Answered.{LinesHaveAnswers};
 ghost use Rattle.cfs_meaning.specs.Granted.{OpenFilesAreGranted};
 ghost use Rattle.cfs_meaning.specs.Laws.{AnswersAreOnly, CalmRunsAnswer, ChangesMakeSteps, CoresStayReached, FilesAreGood, LogsFollowLines, NamesStayLegal, ReadsAreRight, RunsKeepCores};
 
@@ -55,4 +56,9 @@ pub fn reads_are_right()
 /// A script has one list of answers, and leaves one world.
 pub fn answers_are_only()
     ensures { AnswersAreOnly }
+{}
+
+/// At the end of every run each line that helps no entry and makes no step of a job has an answer.
+pub fn lines_have_answers()
+    ensures { LinesHaveAnswers }
 {}

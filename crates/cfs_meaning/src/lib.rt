@@ -15,7 +15,7 @@ pub use halt::Halt;
 pub use images::{load, save};
 pub use laws::{
     answers_are_only, calm_runs_answer, changes_make_steps, cores_stay_reached,     files_are_good,
-    logs_follow_lines, names_stay_legal,
+    lines_have_answers, logs_follow_lines, names_stay_legal,
     open_files_are_granted, reads_are_right, runs_keep_cores, };
 pub use line::{crash_line, fail_line, stop_line};
 pub use power::{crash, number_of, plan, stop};
