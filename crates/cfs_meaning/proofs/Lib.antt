@@ -32,3 +32,9 @@ pub mod OnlyHelps
 pub mod OnlyLines
 pub mod Stored
 pub mod Follow
+pub mod Hoare
+pub mod ShownFiles
+pub mod ShownBlocks
+pub mod ShownJobs
+pub mod ShownLines
+pub mod ShownCrash

@@ -14,6 +14,7 @@ pub mod Play
 pub mod Laws
 pub mod Granted
 pub mod Answered
+pub mod Devices
 pub mod Example
 pub mod Scripts
 pub mod Real

@@ -1,6 +1,7 @@
 //! What holds of every run, as contracts of functions that do nothing.
 
 ghost use Rattle.cfs_meaning.specs.Answered.{LinesHaveAnswers};
+ghost use Rattle.cfs_meaning.specs.Devices.{CrashesLeaveLess, LinesKeepShown, ShownFilesRecover};
 ghost use Rattle.cfs_meaning.specs.Granted.{OpenFilesAreGranted};
 ghost use Rattle.cfs_meaning.specs.Laws.{AnswersAreOnly, CalmRunsAnswer, ChangesMakeSteps, CoresStayReached, FilesAreGood, LogsFollowLines, NamesStayLegal, ReadsAreRight, RunsKeepCores};
 
@@ -61,4 +62,21 @@ pub fn answers_are_only()
 /// At the end of every run each line that helps no entry and makes no step of a job has an answer.
 pub fn lines_have_answers()
     ensures { LinesHaveAnswers }
+{}
+
+/// Where the devices show a world, whatever a crash leaves of each file recovers the file after its
+/// log, and then the request in doubt where its gate was left open.
+pub fn shown_files_recover()
+    ensures { ShownFilesRecover }
+{}
+
+/// Lines without a step of a device keep a world shown, and so do the steps of a job.
+pub fn lines_keep_shown()
+    ensures { LinesKeepShown }
+{}
+
+/// What a crash may leave of a file behind a crash, it may leave before it, so a file that is
+/// recovered stays so.
+pub fn crashes_leave_less()
+    ensures { CrashesLeaveLess }
 {}
