@@ -33,7 +33,7 @@ use Rattle.cfs_medium.specs.World as media
 use Rattle.cfs_medium.specs.WorldCalls.{with_block}
 use Rattle.cfs_meaning.specs.Drive.{Attempt, Block, Drive, Op, Word, attempt, block_at, is_allowed, made, noted, refused, region_at}
 use Rattle.cfs_meaning.specs.World.{File, World, block_of, core_in, file_in, find_file, new_file, replaces, with_core}
-use Rattle.cfs_meaning.specs.Devices.{AllApart, AreApart, IsFileShown, IsFull, IsPlaced, IsShown, OfEachFile, devices_of_file}
+use Rattle.cfs_meaning.specs.Devices.{AllApart, AreApart, IsEvenBlock, IsFileShown, IsPlaced, IsShown, OfEachFile, devices_of_file}
 use Rattle.cfs_meaning.proofs.ShownFiles.{IsInPlace, files-both, files-map, found-in, replaced-but, still-apart}
 
 -- ---- one block changes
@@ -83,25 +83,25 @@ own-devices drive b k seen asked g here low other =
         ∙ ap (λ (s : Seen BlockStep). Some s) (get_or-set_same drive.blocks b seen _ low)
     by-test j false is = by-block j (eqb-false j k is) (block_of g j) refl
 
-all-set : (xs : List (Seen BlockStep)) (b : ℕ) (seen : Seen BlockStep) → IsFull seen →
-    All IsFull xs → All IsFull (set xs b seen)
+all-set : (xs : List (Seen BlockStep)) (b : ℕ) (seen : Seen BlockStep) → IsEvenBlock seen →
+    All IsEvenBlock xs → All IsEvenBlock (set xs b seen)
 all-set xs b seen here all = λ j d low. by-test j d low (j == b) refl
   where
     by-test : (j : ℕ) (d : Seen BlockStep) → j < length (set xs b seen) → (t : Bool) →
-        (j == b) ≡ t → IsFull (get_or (set xs b seen) j d)
+        (j == b) ≡ t → IsEvenBlock (get_or (set xs b seen) j d)
     by-test j d low true is =
         let same : j ≡ b = eqb-true j b is in
         let within : b < length xs = omega (arith, length-set xs b seen) in
-        subst IsFull
+        subst IsEvenBlock
         (sym (ap (λ n. get_or (set xs b seen) n d) same ∙ get_or-set_same xs b seen d within)) here
     by-test j d low false is =
-        subst IsFull (sym (get_or-set_other xs b j seen d (eqb-false j b is)))
+        subst IsEvenBlock (sym (get_or-set_other xs b j seen d (eqb-false j b is)))
         (all j d (omega (arith, length-set xs b seen)))
 
 -- The block of a file block becomes another, and the file's core one that its devices show then.
 pub block-shown : (world : World) (ino k b : ℕ) (seen : Seen BlockStep) (core : Core)
     (asked : List Asked) → (f : File) → find_file world ino ≡ Some f →
-    block_of (file_in world ino) k ≡ Some b → IsFull seen →
+    block_of (file_in world ino) k ≡ Some b → IsEvenBlock seen →
     ((file_in world ino).ended ≡ false → Shows (file_in world ino).ino core
     (with_block k (Some seen) (devices_of_file world.drive (file_in world ino)))) →
     IsShown world →
@@ -122,7 +122,10 @@ block-shown world ino k b seen core asked f found here full shows shown = record
   placed = replaced-but (IsPlaced world.drive) (IsPlaced changed) new world.files
       (still new old_placed.number old_placed.blocks)
       (λ g other h. still g h.number h.blocks) shown.placed;
-  full = all-set world.drive.blocks b seen full shown.full;
+  even = record {
+    regions = shown.even.regions;
+    blocks = all-set world.drive.blocks b seen full shown.even.blocks;
+  };
   tree = shown.tree;
 }
   where

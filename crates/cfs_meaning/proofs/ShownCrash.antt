@@ -23,8 +23,12 @@ use Rattle.cfs_medium.specs.World.{IsImageAt, MayRemain, Remains}
 use Rattle.cfs_meaning.specs.Drive.{Drive, block_at, region_at}
 use Rattle.cfs_meaning.specs.World.{File, World, block_of, devices_of, held_at}
 use Rattle.cfs_meaning.specs.Steps.{size_word}
-use Rattle.cfs_meaning.specs.Play.{crashed}
-use Rattle.cfs_meaning.specs.Devices.{CrashesLeaveLess, IsEven, IsEvenBlock, IsEvenRegion, devices_of_file}
+use Rattle.cfs_print.specs.declared.printed.Printed.{Printed}
+use Rattle.cfs_script.specs.declared.form.Form.TheVariants as forms
+use Rattle.cfs_meaning.specs.Play.{crash_in, crashed, does, steps_so}
+use Rattle.cfs_meaning.specs.Ways.{Halt, changes, ends, follows, gives}
+use Rattle.cfs_meaning.specs.Devices.{CrashesLeaveLess, CrashesRecover, IsEven, IsEvenBlock, IsEvenRegion, IsRecovered, OfEachFile, devices_of_file}
+use Rattle.cfs_meaning.proofs.ShownFiles.{files-map, shown-files-recover}
 
 -- ---- one object
 
@@ -181,3 +185,21 @@ remains-less k drive f remains even h = record {
 pub crashes-leave-less : CrashesLeaveLess
 crashes-leave-less k drive f even recovers up remains h =
     recovers up remains (remains-less k drive f remains even h)
+
+-- ---- the line of a crash
+
+crash-ends : (line k : ℕ) (old : World) (end : Result (Option Printed) Halt) (new : World) →
+    does line (forms.Crash k) old end new → new ≡ crash_in k old
+crash-ends line k old end new (ends (ends way)) = elim way [ ]
+crash-ends line k old end new (ends (follows changes way)) = elim way [ ]
+crash-ends line k old end new (follows (follows changes gives) gives) = refl
+
+pub crashes-recover : CrashesRecover
+crashes-recover old new line k out is reached shown (steps_so end way) =
+    let crash : does line.number (forms.Crash k) old end new =
+    subst (λ f. does line.number f old end new) is way in
+    let same = crash-ends line.number k old end new crash in
+    subst (λ w. OfEachFile (IsRecovered w.drive) w.files) (sym same)
+    (files-map (IsRecovered old.drive) (IsRecovered (crashed k old.drive))
+    (λ f recovers. crashes-leave-less k old.drive f shown.even recovers) old.files
+    (shown-files-recover old shown reached))

@@ -195,7 +195,7 @@ file-shown world ino new same give shown = record {
       numbers give shown.files shown.files;
   apart = still-apart world ino new same numbers shown.apart;
   placed = still-placed world ino new same shown.placed;
-  full = shown.full;
+  even = shown.even;
   tree = shown.tree;
 }
   where
@@ -223,7 +223,7 @@ asked-shown world asked shown = record {
   placed = files-map
       (IsPlaced world.drive) _
       (λ f h. record { number = h.number; blocks = h.blocks }) world.files shown.placed;
-  full = shown.full;
+  even = record { regions = shown.even.regions; blocks = shown.even.blocks };
   tree = shown.tree;
 }
 

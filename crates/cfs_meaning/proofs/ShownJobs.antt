@@ -50,7 +50,7 @@ use Rattle.cfs_slot.specs.Payload.{SlotRead, payload_reads}
 use Rattle.cfs_meaning.specs.Drive.{Attempt, Block, Drive, Op, Word, attempt, block_at, block_refused, content_at, is_allowed, made, noted, refused}
 use Rattle.cfs_meaning.specs.Steps.{payload_read}
 use Rattle.cfs_meaning.specs.World.{File, World, block_of, core_in, devices_of, file_in, find_file, held_at, new_file, with_core}
-use Rattle.cfs_meaning.specs.Devices.{IsFull, IsPlaced, IsShown, devices_of_file}
+use Rattle.cfs_meaning.specs.Devices.{IsEvenBlock, IsPlaced, IsShown, devices_of_file}
 use Rattle.cfs_meaning.specs.Inode.{apply, flush_block, leases_at, next_step, part_read, what_is_left, write_block}
 use Rattle.cfs_meaning.specs.Laws.{AreReached}
 use Rattle.cfs_meaning.specs.Ways.{steps}
@@ -189,7 +189,7 @@ pub record IsJobs (world : World) (ino place k : ℕ) : Type 0 where
   pub block : ℕ
   pub here : block_of (file_in world ino) k ≡ Some block
   pub within : block < length world.drive.blocks
-  pub full : IsFull (block_at world.drive block)
+  pub full : IsEvenBlock (block_at world.drive block)
 
 pub job-block : (world : World) (ino place k : ℕ) → AtWork ino world →
     may_flush (core_in world ino) place k ≡ true → IsJobs world ino place k
@@ -220,7 +220,7 @@ job-block world ino place k work may_be =
       block = mapped.0;
       here = mapped.1;
       within = placed.blocks k mapped.0 mapped.1;
-      full = work.shown.full mapped.0 _ (placed.blocks k mapped.0 mapped.1);
+      full = work.shown.even.blocks mapped.0 _ (placed.blocks k mapped.0 mapped.1);
     }
 
 -- ---- a flush
@@ -228,13 +228,13 @@ job-block world ino place k work may_be =
 may-case : (core : Core) (e : Event) → may core e ≡ true → case core e ≡ true
 may-case core e is = (and_parts (is_in_phase core.crashed e) (case core e) is).1
 
-flush-moments : (seen : Seen BlockStep) → IsFull seen → (ok : Bool) →
+flush-moments : (seen : Seen BlockStep) → IsEvenBlock seen → (ok : Bool) →
     Moments IsBlockImage (IsBlockImage seen.history) [] seen (Step seen.device true ok ∷ [])
     (seen_after ok flush seen)
 flush-moments seen full true =
-    on_flush full (begun [] seen (λ image h. h)) refl (asks_one refl)
+    on_flush full.1 (begun [] seen (λ image h. h)) refl (asks_one refl)
 flush-moments seen full false =
-    on_stall full (begun [] seen (λ image h. h)) refl (asks_one refl)
+    on_stall full.1 (begun [] seen (λ image h. h)) refl (asks_one refl)
 
 flushed-core : (world : World) (ino place k : ℕ) (ok : Bool) → AtWork ino world →
     may (core_in world ino) (events.Flush place k ok) ≡ true → (job : IsJobs world ino place k) →
@@ -249,7 +249,7 @@ flushed-core world ino place k true work may_be job =
     (whole job.core_reached).kept.stored_.short may_be (omega arith)
     (ap (λ o. option_map (block_at world.drive) o) job.here)
     (record {
-      full = (let is = job.full in omega (arith, is));
+      full = (let is = job.full.1 in omega (arith, is));
       ok = refl;
       err = tt;
       moments = flush-moments (block_at world.drive job.block) job.full true;
@@ -262,14 +262,15 @@ flushed-core world ino place k false work may_be job =
     (whole job.core_reached).kept.stored_.short may_be (omega arith)
     (ap (λ o. option_map (block_at world.drive) o) job.here)
     (record {
-      full = (let is = job.full in omega (arith, is));
+      full = (let is = job.full.1 in omega (arith, is));
       ok = tt;
       err = refl;
       moments = flush-moments (block_at world.drive job.block) job.full false;
     })).err
 
-full-after : (ok : Bool) (seen : Seen BlockStep) → IsFull seen → IsFull (seen_after ok flush seen)
-full-after true seen full = full
+full-after : (ok : Bool) (seen : Seen BlockStep) → IsEvenBlock seen →
+    IsEvenBlock (seen_after ok flush seen)
+full-after true seen full = (full.1, full.1)
 full-after false seen full = full
 
 flushed-shown : (world : World) (ino place k : ℕ) (ok : Bool) (asked : List Asked) →
@@ -424,20 +425,20 @@ ranged-more seen from len first image h more = record {
   };
 }
 
-write-moments : (seen : Seen BlockStep) (from : ℕ) (bytes : List ℕ) → IsFull seen →
+write-moments : (seen : Seen BlockStep) (from : ℕ) (bytes : List ℕ) → IsEvenBlock seen →
     from + length bytes ≤ BLOCK_LEN →
     Moments IsBlockImage (IsRangedFrom seen from (length bytes)) [] seen
     (Step seen.device true true ∷ []) (wrote from bytes seen)
 write-moments seen from bytes full fits =
-    on_write from bytes full fits (begun [] seen (ranged-same seen from (length bytes))) refl
+    on_write from bytes full.1 fits (begun [] seen (ranged-same seen from (length bytes))) refl
     (asks_one refl) (ranged-more seen from (length bytes))
 
-torn-moments : (seen : Seen BlockStep) (from : ℕ) (left : List ℕ) → IsFull seen →
+torn-moments : (seen : Seen BlockStep) (from : ℕ) (left : List ℕ) → IsEvenBlock seen →
     from + length left ≤ BLOCK_LEN → content_of seen ≡ with_bytes from left (content_of seen) →
     Moments IsBlockImage (IsRangedFrom seen from (length left)) [] seen
     (Step seen.device true false ∷ []) (unwritten from (length left) seen)
 torn-moments seen from left full fits same =
-    on_torn from (length left) full fits (begun [] seen (ranged-same seen from (length left)))
+    on_torn from (length left) full.1 fits (begun [] seen (ranged-same seen from (length left)))
     (record {
       left = left;
       size = refl;
@@ -446,24 +447,24 @@ torn-moments seen from left full fits same =
     })
     (asks_one refl) (ranged-more seen from (length left))
 
-full-written : (seen : Seen BlockStep) (from : ℕ) (bytes : List ℕ) → IsFull seen →
-    from + length bytes ≤ BLOCK_LEN → IsFull (wrote from bytes seen)
+full-written : (seen : Seen BlockStep) (from : ℕ) (bytes : List ℕ) → IsEvenBlock seen →
+    from + length bytes ≤ BLOCK_LEN → IsEvenBlock (wrote from bytes seen)
 full-written seen from bytes full fits =
     let same = length-patched (content_of seen).bytes from bytes
-    (let is = full in omega (arith, is, fits)) in same ∙ full
+    (let is = full.1 in omega (arith, is, fits)) in (full.0, same ∙ full.1)
 
 -- the event of a write, and what the block is then
 abbrev write_event : ℕ → ℕ → Bool → List ℕ → Event
 write_event place k ok left = events.BlockWrite place k (what_is_left ok left)
 
-left-length : (core : Core) (place k : ℕ) (seen : Seen BlockStep) → IsFull seen →
+left-length : (core : Core) (place k : ℕ) (seen : Seen BlockStep) → IsEvenBlock seen →
     IsSized core place k → length (left_of core place k seen) ≡ length (piece_of core place k)
 left-length core place k seen full sized =
     let dropped = length-drop (from_in core place k) (content_of seen).bytes in
     let taken = length-take (length (piece_of core place k))
     (drop (from_in core place k) (content_of seen).bytes) in
     let within = sized.within in
-    let is = full in
+    let is = full.1 in
     omega (arith, dropped, taken, within, is)
 
 written-core : (world : World) (ino place k : ℕ) (ok : Bool) → AtWork ino world →
@@ -488,7 +489,7 @@ written-core world ino place k true work job has_it may_be =
     job.shows may_be (omega arith)
     (ap (λ o. option_map (block_at world.drive) o) job.here)
     (record { starts = sized.starts; ends = sized.ends; within = sized.within; is = refl })
-    job.full refl
+    job.full.1 refl
     (write-moments seen (from_in core place k) (piece_of core place k) job.full sized.within)).1
 written-core world ino place k false work job has_it may_be =
     let core : Core = core_in world ino in
@@ -501,7 +502,7 @@ written-core world ino place k false work job has_it may_be =
     let is : content_of seen ≡ with_bytes (from_in core place k) left (content_of seen) =
     ap (λ bytes. record { tag = (content_of seen).tag; bytes = bytes })
     (sym (patched_same (content_of seen).bytes (from_in core place k) (length (piece_of core place k))
-    (let within = sized.within in let is = job.full in omega (arith, within, is)))) in
+    (let within = sized.within in let is = job.full.1 in omega (arith, within, is)))) in
     (writes-show (file_in world ino).ino (length core.log + 2) place k (from_in core place k)
     (Some left) left core (devices_of_file world.drive (file_in world ino)) seen
     (unwritten (from_in core place k) (length (piece_of core place k)) seen) [] _
@@ -515,13 +516,14 @@ written-core world ino place k false work job has_it may_be =
       within = fits;
       is = refl;
     })
-    job.full is
+    job.full.1 is
     (subst (λ n. Moments IsBlockImage (IsRangedFrom seen (from_in core place k) (length left)) []
     seen (Step seen.device true false ∷ []) (unwritten (from_in core place k) n seen)) same
     (torn-moments seen (from_in core place k) left job.full fits is))).1
 
-full-write : (ok : Bool) (seen : Seen BlockStep) (from : ℕ) (bytes : List ℕ) → IsFull seen →
-    from + length bytes ≤ BLOCK_LEN → IsFull (seen_after ok (put_bytes from bytes) seen)
+full-write : (ok : Bool) (seen : Seen BlockStep) (from : ℕ) (bytes : List ℕ) →
+    IsEvenBlock seen → from + length bytes ≤ BLOCK_LEN →
+    IsEvenBlock (seen_after ok (put_bytes from bytes) seen)
 full-write true seen from bytes full fits = full-written seen from bytes full fits
 full-write false seen from bytes full fits = full
 

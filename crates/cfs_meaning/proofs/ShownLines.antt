@@ -77,7 +77,7 @@ same-shown old new drive files names shown =
       files = shown.files;
       apart = shown.apart;
       placed = shown.placed;
-      full = shown.full;
+      even = shown.even;
       tree = shown.tree;
     })))
 

@@ -58,8 +58,19 @@ pub record IsPlaced (drive : Drive) (f : File) : Type 0 where
   pub number : f.ino ≢ 0
   pub blocks : (k b : ℕ) → block_of f k ≡ Some b → b < length drive.blocks
 
-abbrev pub IsFull : Seen BlockStep → Type 0
-IsFull seen = length (content_of seen).bytes ≡ BLOCK_LEN
+-- a region has as many words as at its newest persist, and a block so many bytes as at its newest
+-- flush
+abbrev pub IsEvenRegion : Seen WordStep → Type 0
+IsEvenRegion seen = length (words_kept seen.history) ≡ length (words_of seen)
+
+abbrev pub IsEvenBlock : Seen BlockStep → Type 0
+IsEvenBlock seen =
+    (length (content_kept seen.history).bytes ≡ BLOCK_LEN)
+    × (length (content_of seen).bytes ≡ BLOCK_LEN)
+
+pub record IsEven (drive : Drive) : Type 0 where
+  pub regions : All IsEvenRegion drive.regions
+  pub blocks : All IsEvenBlock drive.blocks
 
 -- ---- the tree
 
@@ -76,7 +87,7 @@ pub record IsShown (world : World) : Type 0 where
   pub files : OfEachFile (IsFileShown world.drive) world.files
   pub apart : AllApart world.files
   pub placed : OfEachFile (IsPlaced world.drive) world.files
-  pub full : All IsFull world.drive.blocks
+  pub even : IsEven world.drive
   pub tree : IsTreeShown world
 
 -- Whatever a crash leaves of a file's devices recovers the file after its log, and then the request
@@ -119,22 +130,15 @@ LinesKeepShown =
 
 -- ---- crashes
 
--- a region has as many words as at its newest persist, and a block so many bytes as at its newest
--- flush
-abbrev pub IsEvenRegion : Seen WordStep → Type 0
-IsEvenRegion seen = length (words_kept seen.history) ≡ length (words_of seen)
-
-abbrev pub IsEvenBlock : Seen BlockStep → Type 0
-IsEvenBlock seen =
-    (length (content_kept seen.history).bytes ≡ BLOCK_LEN)
-    × (length (content_of seen).bytes ≡ BLOCK_LEN)
-
-pub record IsEven (drive : Drive) : Type 0 where
-  pub regions : All IsEvenRegion drive.regions
-  pub blocks : All IsEvenBlock drive.blocks
-
 -- What a crash may leave behind a crash, it may leave before it: a file that is recovered stays so.
 abbrev pub CrashesLeaveLess : Type 0
 CrashesLeaveLess =
     (k : ℕ) (drive : Drive) (f : File) → IsEven drive → IsRecovered drive f →
     IsRecovered (crashed k drive) f
+
+-- So behind a crash of a world that is shown each file recovers what it would have before.
+abbrev pub CrashesRecover : Type 0
+CrashesRecover =
+    (old new : World) (line : Line) (k : ℕ) (out : List OutLine) → line.form ≡ forms.Crash k →
+    AreReached old → IsShown old → Step line old out new →
+    OfEachFile (IsRecovered new.drive) new.files

@@ -1,7 +1,7 @@
 //! What holds of every run, as contracts of functions that do nothing.
 
 ghost use Rattle.cfs_meaning.specs.Answered.{LinesHaveAnswers};
-ghost use Rattle.cfs_meaning.specs.Devices.{CrashesLeaveLess, LinesKeepShown, ShownFilesRecover};
+ghost use Rattle.cfs_meaning.specs.Devices.{CrashesLeaveLess, CrashesRecover, LinesKeepShown, ShownFilesRecover};
 ghost use Rattle.cfs_meaning.specs.Granted.{OpenFilesAreGranted};
 ghost use Rattle.cfs_meaning.specs.Laws.{AnswersAreOnly, CalmRunsAnswer, ChangesMakeSteps, CoresStayReached, FilesAreGood, LogsFollowLines, NamesStayLegal, ReadsAreRight, RunsKeepCores};
 
@@ -79,4 +79,9 @@ pub fn lines_keep_shown()
 /// recovered stays so.
 pub fn crashes_leave_less()
     ensures { CrashesLeaveLess }
+{}
+
+/// Behind a crash of a world that its devices show, each file recovers what it would have before.
+pub fn crashes_recover()
+    ensures { CrashesRecover }
 {}
