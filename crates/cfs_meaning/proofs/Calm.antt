@@ -17,7 +17,7 @@ use Rattle.cfs_meaning.specs.Laws.{AreGiven, CalmRunsAnswer, IsCalm, IsGiven, is
 use Rattle.cfs_meaning.specs.Play.{Step, does, goes_on, mount, mount_line, printed, run_ends, steps_so, unless_off}
 use Rattle.cfs_meaning.specs.Ways.{Fault, Halt, Says, Waits}
 use Rattle.cfs_meaning.proofs.Keeping.{IsSaid, Keeps, keep-give, keep-look, keep-say, keep-then}
-use Rattle.cfs_meaning.proofs.Worlds.{EndsAs, WorldLaw, law_of, moves}
+use Rattle.cfs_meaning.proofs.Worlds.{EndsAs, NameLaw, WorldLaw, law_of, moves, requests_of}
 use Rattle.cfs_meaning.proofs.KeptLines.{IsGivenIfAny, is_plain, kept-plain}
 use Rattle.cfs_meaning.proofs.Lines.{kept-home}
 
@@ -86,7 +86,12 @@ calm_law line = record {
   };
   line = line;
   comes = λ ino e world own may_be holds. holds;
+}
+
+calm-names : (line : ℕ) → NameLaw (calm_law line)
+calm-names line = record {
   asks = λ c request rec step world is holds. holds;
+  opens = λ c change world holds. holds;
 }
 
 -- ---- mounts
@@ -128,7 +133,8 @@ kept-line line form calm = by-kind (is_plain form) refl
   where
     by-kind : (plain : Bool) → is_plain form ≡ plain →
         Keeps (law_of (calm_law line)).base IsGivenIfAny (does line form)
-    by-kind true is = kept-plain (law_of (calm_law line)) form is
+    by-kind true is =
+        kept-plain (law_of (calm_law line)) (requests_of (calm_law line) (calm-names line)) form is
     by-kind false is = kept-rest line form calm is
 
 -- ---- what is printed

@@ -2,15 +2,22 @@
 -- lets the part end only as it may.
 use Rattle.std.proofs.Common.{◌≡◌, ℕ, Bool, true, false, List, [], ◌∷◌, length, Option, Some, None, refl}
 use Rattle.cfs_core.specs.declared.inode_core.Core.{Core}
+use Rattle.cfs_grants.specs.declared.grant.Grant.{Grant}
 use Rattle.cfs_print.specs.declared.printed.Printed.{Printed}
 use Rattle.cfs_print.specs.declared.printed.Printed.TheVariants as answers
 use Rattle.cfs_meaning.specs.Drive.{Op}
-use Rattle.cfs_meaning.specs.World.{World, empty_core}
+use Rattle.cfs_meaning.specs.World.{File, World, empty_core}
 use Rattle.cfs_meaning.specs.Laws.{OfEachCore}
+use Rattle.cfs_meaning.specs.Granted.{OfEachOpen}
 use Rattle.cfs_meaning.specs.Ways.{Changes, Fault, Halt, Mends, Now, Repeats, Says, Shrugs, Tries, Waits, Way, choose, each, end_with, give, known, never, only_if, refuse_if, say, steps, unless_fault, when, ◌>>=◌}
 
+-- no core is one that a crash left
+abbrev pub AreUncrashed : List File → Type 0
+AreUncrashed [] = Unit {0}
+AreUncrashed (f ∷ files) = (f.core.crashed ≡ false) × AreUncrashed files
+
 -- A change that is no operation of a device, no event of a core and no request on names: a core
--- stays, or its file begins empty.
+-- stays, or its file begins empty, and no descriptor is opened.
 pub record IsQuiet (old new : World) : Type 1 where
   pub drive : new.drive ≡ old.drive
   pub phase : new.phase ≡ old.phase
@@ -20,6 +27,8 @@ pub record IsQuiet (old new : World) : Type 1 where
   pub log : new.names.log ≡ old.names.log
   pub order : new.names.now ≡ old.names.now
   pub queues : length new.queues ≡ length old.queues
+  pub opened : (P : ℕ → ℕ → Grant → Type 0) → OfEachOpen P old.callers → OfEachOpen P new.callers
+  pub uncrashed : AreUncrashed old.files → AreUncrashed new.files
 
 -- what a line may say before its end: no bytes, and nothing of faults and of the power
 abbrev pub IsSaid : Printed → Type 0

@@ -10,13 +10,14 @@ use Rattle.cfs_words.specs.declared.seek.Seek.{Seek}
 use Rattle.cfs_meaning.specs.NameSteps.{closing}
 use Rattle.cfs_meaning.specs.World.{Descriptor, World, core_in}
 use Rattle.cfs_meaning.specs.Inode.{Absent, Behind, Ready, Verdict, serve_verdict}
+use Rattle.cfs_meaning.specs.Names.{ask}
 use Rattle.cfs_meaning.specs.Ways.{Way, known}
 use Rattle.cfs_meaning.specs.Files.{Helps, move_by, admit_write, append, clear_way, close, collect, collected, find_room, ftruncate, help_lowest, help_some, in_the_way, list_queue, lseek, make_room, opened, opened_to_read, opened_to_write, post, pwrite, read_or_sync, room_or_full, say_served, serve_helped, serve_posted, stage_and_admit, write}
 use Rattle.cfs_meaning.proofs.Keeping.{Any, IsSaid, Keeps, keep-changes, keep-choose, keep-each, keep-end, keep-give, keep-look, keep-mends, keep-refuse, keep-repeats, keep-say, keep-steps, keep-then, keep-when}
 use Rattle.cfs_meaning.proofs.KeptInode.{kept-admit, kept-drop, kept-job, kept-read, kept-serve, kept-settle, kept-skip}
 use Rattle.cfs_meaning.proofs.KeptNames.{kept-ask-purge}
 use Rattle.cfs_meaning.proofs.Kept.{Law}
-use Rattle.cfs_meaning.proofs.Quiet.{quiet-by, quiet-descriptors, quiet-move, quiet-queue}
+use Rattle.cfs_meaning.proofs.Quiet.{quiet-by, quiet-close, quiet-move, quiet-queue}
 
 -- ---- helping
 
@@ -27,14 +28,14 @@ kept-help law ino place = record {
 
 -- ---- slots
 
-kept-collect : (law : Law) (q : ℕ) → Keeps law.base Any (collect q)
+pub kept-collect : (law : Law) (q : ℕ) → Keeps law.base Any (collect q)
 kept-collect law q = keep-changes (quiet-queue q collected)
 
 kept-some : (law : Law) (ino : ℕ) (place : Option ℕ) → Keeps law.base Any (help_some ino place)
 kept-some law ino None = keep-give tt
 kept-some law ino (Some place) = keep-then (kept-help law ino place) (λ u a. keep-give tt)
 
-kept-lowest : (law : Law) (d : Descriptor) → Keeps law.base Any (help_lowest d)
+pub kept-lowest : (law : Law) (d : Descriptor) → Keeps law.base Any (help_lowest d)
 kept-lowest law d = keep-look (λ w. kept-some law d.grant.ino _)
 
 kept-make-room : (law : Law) (d : Descriptor) (count : ℕ) → Keeps law.base Any (make_room d count)
@@ -186,12 +187,13 @@ pub kept-listed : (law : Law) (d : Descriptor) → Keeps law.base IsGiven (list_
 kept-listed law d = keep-look (λ w. keep-give tt)
 
 pub kept-close-fd : (law : Law) (d : Descriptor) (c : ℕ) →
+    Keeps law.base Any (ask c law.line (closing d.grant)) →
     Keeps law.base IsGiven (close d c law.line)
-kept-close-fd law d c =
+kept-close-fd law d c kept =
     keep-look (λ w.
     keep-then (keep-each _ (kept-drop law d.grant.ino)) (λ u a.
     keep-then (keep-when _ (kept-settle law d.grant.ino)) (λ u a.
     keep-then (keep-repeats (kept-lowest law d)) (λ u a.
     keep-then (kept-collect law d.grant.queue) (λ u a.
-    keep-then (keep-changes (quiet-descriptors c _)) (λ u a.
-    kept-ask-purge law c (closing d.grant)))))))
+    keep-then (keep-changes (quiet-close c d.fd)) (λ u a.
+    kept-ask-purge law c (closing d.grant) kept))))))

@@ -1,16 +1,18 @@
 -- Each line of a mounted store keeps each law, but for those that set the power or a plan, the
 -- crash and the caller's.
-use Rattle.std.proofs.Common.{◌≡◌, ℕ, Bool, true, false, Option, Some, None, List, [], ◌∷◌, ◌+◌}
+use Rattle.std.proofs.Common.{◌≡◌, ℕ, Bool, true, false, Option, Some, None, List, [], ◌∷◌, ◌+◌, refl}
 use Rattle.std.specs.Prelude.{if◌then◌else◌}
 use Rattle.cfs_cred.specs.declared.credential.Credential.{Credential}
 use Rattle.cfs_print.specs.declared.printed.Printed.{Printed}
 use Rattle.cfs_script.specs.declared.form.Form.{Form}
 use Rattle.cfs_script.specs.declared.form.Form.TheVariants as forms
-use Rattle.cfs_requests.specs.Steps.{makes_directory, moves_node, opens_file, removes_directory, unlinks_file}
+use Rattle.cfs_requests.specs.Steps.{NameRequest, closes_queue, makes_directory, moves_node, opens_file, removes_directory, unlinks_file}
 use Rattle.cfs_meaning.specs.World.{Down, Failed, Phase, Up, core_in}
 use Rattle.cfs_meaning.specs.Inode.{Absent, Behind, Ready, Verdict, verdict}
 use Rattle.cfs_print.specs.declared.printed.Printed.TheVariants.{Fine, More}
 use Rattle.cfs_meaning.specs.Laws.{IsGiven}
+use Rattle.cfs_meaning.specs.Names.{ask}
+use Rattle.cfs_meaning.specs.NameSteps.{closing}
 use Rattle.cfs_meaning.specs.Files.{find_room, room_or_full}
 use Rattle.cfs_meaning.specs.Workers.{Item, apply_line, chosen, dispatch_by, dispatch_line, do_item, drain, finish_line, say_turn, settle_line, skip_line, take_turn, there, trim_each, trim_line, turn, work}
 use Rattle.cfs_meaning.specs.Play.{by, does, up, while_up}
@@ -19,7 +21,7 @@ use Rattle.cfs_meaning.proofs.Keeping.{Any, Keeps, keep-changes, keep-choose, ke
 use Rattle.cfs_meaning.proofs.KeptInode.{kept-apply, kept-dispatch, kept-finish, kept-job, kept-settle, kept-skip, kept-trim}
 use Rattle.cfs_meaning.proofs.KeptNames.{kept-ask, kept-ask-purge, kept-made, kept-named, kept-open}
 use Rattle.cfs_meaning.proofs.KeptFiles.{kept-close-fd, kept-full, kept-listed, kept-opened, kept-post, kept-posted, kept-pwrite, kept-read-or-sync, kept-room, kept-seek, kept-to-read, kept-to-write, kept-truncate, kept-write}
-use Rattle.cfs_meaning.proofs.Kept.{Law}
+use Rattle.cfs_meaning.proofs.Kept.{Law, Requests}
 use Rattle.cfs_meaning.proofs.Quiet.{quiet-all}
 
 -- ---- workers
@@ -117,7 +119,7 @@ kept-phase law Up kept = kept
 kept-phase law Down kept = keep-say tt
 kept-phase law Failed kept = keep-say tt
 
-kept-up : (law : Law) {way : Way Printed} → Keeps law.base IsGiven way →
+pub kept-up : (law : Law) {way : Way Printed} → Keeps law.base IsGiven way →
     Keeps law.base IsGivenIfAny (up way)
 kept-up law kept =
     keep-then (keep-look (λ w. kept-phase law w.phase kept)) (λ answer given. keep-give given)
@@ -132,67 +134,116 @@ is_plain (forms.Fail device k) = false
 is_plain (forms.FailRead device k) = false
 is_plain other = true
 
-kept-by : (law : Law) {A : Type 0} {R : A → Type 0} (c : ℕ) {way : Credential → Way A} →
+pub kept-by : (law : Law) {A : Type 0} {R : A → Type 0} (c : ℕ) {way : Credential → Way A} →
     ((credential : Credential) → Keeps law.base R (way credential)) → Keeps law.base R (by c way)
 kept-by law c kept = keep-look (λ w. kept _)
 
-pub kept-plain : (law : Law) (form : Form) → is_plain form ≡ true →
+-- the lines on names, and the one that gives a grant back
+abbrev pub is_of_names : Form → Bool
+is_of_names (forms.Open c path flags mode) = true
+is_of_names (forms.Mkdir c path mode) = true
+is_of_names (forms.Unlink c path) = true
+is_of_names (forms.Rmdir c path) = true
+is_of_names (forms.Rename c from to) = true
+is_of_names (forms.Close c fd) = true
+is_of_names other = false
+
+pub kept-file : (law : Law) (form : Form) → is_plain form ≡ true → is_of_names form ≡ false →
     Keeps law.base IsGivenIfAny (does law.line form)
-kept-plain law (forms.Caller c uid gid) plain = absurd (cc)
-kept-plain law (forms.Open c path flags mode) plain =
-    kept-up law (keep-then (kept-by law c (λ credential.
-    kept-ask law c (opens_file credential path flags mode))) (λ reply a.
-    kept-open law c flags.append reply))
-kept-plain law (forms.Mkdir c path mode) plain =
-    kept-up law (keep-then (kept-by law c (λ credential.
-    kept-ask law c (makes_directory credential path mode))) (λ reply a. kept-made law reply))
-kept-plain law (forms.Unlink c path) plain =
-    kept-up law (kept-by law c (λ credential.
-    kept-ask-purge law c (unlinks_file credential path)))
-kept-plain law (forms.Rmdir c path) plain =
-    kept-up law (keep-then (kept-by law c (λ credential.
-    kept-ask law c (removes_directory credential path))) (λ reply a. kept-named law))
-kept-plain law (forms.Rename c from to) plain =
-    kept-up law (kept-by law c (λ credential.
-    kept-ask-purge law c (moves_node credential from to)))
-kept-plain law (forms.Read c fd n) plain =
+kept-file law (forms.Caller c uid gid) plain other = absurd (cc)
+kept-file law (forms.Read c fd n) plain other =
     kept-up law (keep-then (kept-to-read law c fd) (λ d a. kept-read-or-sync law d c _ true))
-kept-plain law (forms.Write c fd bytes) plain =
+kept-file law (forms.Write c fd bytes) plain other =
     kept-up law (keep-then (kept-to-write law c fd) (λ d a. kept-write law d c _))
-kept-plain law (forms.Pread c fd offset n) plain =
+kept-file law (forms.Pread c fd offset n) plain other =
     kept-up law (keep-then (kept-to-read law c fd) (λ d a. kept-read-or-sync law d c _ false))
-kept-plain law (forms.Pwrite c fd offset bytes) plain =
+kept-file law (forms.Pwrite c fd offset bytes) plain other =
     kept-up law (keep-then (kept-to-write law c fd) (λ d a.
     kept-pwrite law d c offset _ find_room false (kept-room law d)))
-kept-plain law (forms.TryPwrite c fd offset bytes) plain =
+kept-file law (forms.TryPwrite c fd offset bytes) plain other =
     kept-up law (keep-then (kept-to-write law c fd) (λ d a.
     kept-pwrite law d c offset _ room_or_full false (kept-full law d)))
-kept-plain law (forms.Lseek c fd seek) plain =
+kept-file law (forms.Lseek c fd seek) plain other =
     kept-up law (keep-then (kept-opened law c fd) (λ d a. kept-seek law d c seek))
-kept-plain law (forms.Ftruncate c fd n) plain =
+kept-file law (forms.Ftruncate c fd n) plain other =
     kept-up law (keep-then (kept-to-write law c fd) (λ d a. kept-truncate law d c n))
-kept-plain law (forms.Close c fd) plain =
-    kept-up law (keep-then (kept-opened law c fd) (λ d a. kept-close-fd law d c))
-kept-plain law (forms.Fsync c fd) plain =
+kept-file law (forms.Fsync c fd) plain other =
     kept-up law (keep-then (kept-opened law c fd) (λ d a. kept-read-or-sync law d c _ false))
-kept-plain law (forms.Post c fd offset n) plain =
+kept-file law (forms.Post c fd offset n) plain other =
     kept-up law (keep-then (kept-to-read law c fd) (λ d a. kept-post law d c _))
-kept-plain law (forms.Serve c fd place) plain =
+kept-file law (forms.Serve c fd place) plain other =
     kept-up law (keep-then (kept-opened law c fd) (λ d a. kept-posted law d place))
-kept-plain law (forms.Dispatch ino place) plain = kept-up law (kept-dispatch-line law ino place)
-kept-plain law (forms.Apply ino place) plain = kept-up law (kept-apply-line law ino place)
-kept-plain law (forms.Finish ino place) plain = kept-up law (kept-finish-line law ino place)
-kept-plain law (forms.Skip ino place) plain = kept-up law (kept-skip-line law ino place)
-kept-plain law (forms.Trim ino) plain = kept-up law (kept-trim-line law ino)
-kept-plain law (forms.Settle ino) plain = kept-up law (kept-settle-line law ino)
-kept-plain law forms.Turn plain =
+kept-file law (forms.Dispatch ino place) plain other = kept-up law (kept-dispatch-line law ino place)
+kept-file law (forms.Apply ino place) plain other = kept-up law (kept-apply-line law ino place)
+kept-file law (forms.Finish ino place) plain other = kept-up law (kept-finish-line law ino place)
+kept-file law (forms.Skip ino place) plain other = kept-up law (kept-skip-line law ino place)
+kept-file law (forms.Trim ino) plain other = kept-up law (kept-trim-line law ino)
+kept-file law (forms.Settle ino) plain other = kept-up law (kept-settle-line law ino)
+kept-file law forms.Turn plain other =
     kept-up law (keep-then (kept-turn law) (λ x a. kept-say-turn law x))
-kept-plain law forms.Drain plain = kept-up law (kept-drain law)
-kept-plain law (forms.Queue c fd) plain =
+kept-file law forms.Drain plain other = kept-up law (kept-drain law)
+kept-file law (forms.Queue c fd) plain other =
     kept-up law (keep-then (kept-opened law c fd) (λ d a. kept-listed law d))
-kept-plain law (forms.Stop n) plain = absurd (cc)
-kept-plain law (forms.Crash k) plain = absurd (cc)
-kept-plain law forms.Mount plain = absurd (cc)
-kept-plain law (forms.Fail device k) plain = absurd (cc)
-kept-plain law (forms.FailRead device k) plain = absurd (cc)
-kept-plain law (forms.Cut n k) plain = keep-never
+kept-file law (forms.Stop n) plain other = absurd (cc)
+kept-file law (forms.Crash k) plain other = absurd (cc)
+kept-file law forms.Mount plain other = absurd (cc)
+kept-file law (forms.Fail device k) plain other = absurd (cc)
+kept-file law (forms.FailRead device k) plain other = absurd (cc)
+kept-file law (forms.Cut n k) plain other = keep-never
+kept-file law (forms.Open c path flags mode) plain other = absurd (cc)
+kept-file law (forms.Mkdir c path mode) plain other = absurd (cc)
+kept-file law (forms.Unlink c path) plain other = absurd (cc)
+kept-file law (forms.Rmdir c path) plain other = absurd (cc)
+kept-file law (forms.Rename c from to) plain other = absurd (cc)
+kept-file law (forms.Close c fd) plain other = absurd (cc)
+
+-- the lines that change the tree alone, and their requests
+abbrev pub is_of_tree : Form → Bool
+is_of_tree (forms.Mkdir c path mode) = true
+is_of_tree (forms.Unlink c path) = true
+is_of_tree (forms.Rmdir c path) = true
+is_of_tree (forms.Rename c from to) = true
+is_of_tree other = false
+
+abbrev pub keeps_grants : NameRequest → Bool
+keeps_grants (opens_file credential path flags mode) = false
+keeps_grants (closes_queue queue) = false
+keeps_grants other = true
+
+pub kept-tree : (law : Law) → ((c : ℕ) (request : NameRequest) → keeps_grants request ≡ true →
+    Keeps law.base Any (ask c law.line request)) → (form : Form) → is_of_tree form ≡ true →
+    Keeps law.base IsGivenIfAny (does law.line form)
+kept-tree law asks (forms.Mkdir c path mode) tree =
+    kept-up law (keep-then (kept-by law c (λ credential.
+    asks c (makes_directory credential path mode) refl)) (λ reply a. kept-made law reply))
+kept-tree law asks (forms.Unlink c path) tree =
+    kept-up law (kept-by law c (λ credential.
+    kept-ask-purge law c _ (asks c (unlinks_file credential path) refl)))
+kept-tree law asks (forms.Rmdir c path) tree =
+    kept-up law (keep-then (kept-by law c (λ credential.
+    asks c (removes_directory credential path) refl)) (λ reply a. kept-named law))
+kept-tree law asks (forms.Rename c from to) tree =
+    kept-up law (kept-by law c (λ credential.
+    kept-ask-purge law c _ (asks c (moves_node credential from to) refl)))
+kept-tree law asks form tree = absurd (cc)
+
+pub kept-names : (law : Law) → Requests law → (form : Form) → is_of_names form ≡ true →
+    Keeps law.base IsGivenIfAny (does law.line form)
+kept-names law requests (forms.Open c path flags mode) names =
+    kept-up law (keep-then (kept-by law c (λ credential.
+    kept-ask law requests c (opens_file credential path flags mode))) (λ reply a.
+    kept-open law requests c flags.append reply))
+kept-names law requests (forms.Close c fd) names =
+    kept-up law (keep-then (kept-opened law c fd) (λ d a.
+    kept-close-fd law d c (kept-ask law requests c (closing d.grant))))
+kept-names law requests form names =
+    kept-tree law (λ c request keeps. kept-ask law requests c request) form names
+
+pub kept-plain : (law : Law) → Requests law → (form : Form) → is_plain form ≡ true →
+    Keeps law.base IsGivenIfAny (does law.line form)
+kept-plain law requests form plain = by-kind (is_of_names form) refl
+  where
+    by-kind : (names : Bool) → is_of_names form ≡ names →
+        Keeps law.base IsGivenIfAny (does law.line form)
+    by-kind true is = kept-names law requests form is
+    by-kind false is = kept-file law form plain is

@@ -7,8 +7,8 @@ use Rattle.cfs_meaning.specs.Laws.{IsGiven}
 use Rattle.cfs_meaning.specs.Names.{ask, ask_and_purge, checkpoint, dying, open_with, purge_all, say_made, say_named, store_change}
 use Rattle.cfs_meaning.proofs.Keeping.{Any, Base, Keeps, keep-changes, keep-each, keep-give, keep-look, keep-never, keep-only, keep-shrugs, keep-steps, keep-then, keep-tries, keep-unless, keep-when}
 use Rattle.cfs_meaning.proofs.KeptInode.{kept-purge}
-use Rattle.cfs_meaning.proofs.Kept.{Law}
-use Rattle.cfs_meaning.proofs.Quiet.{quiet-descriptors, quiet-doubt, quiet-recorded, quiet-selected, quiet-settled}
+use Rattle.cfs_meaning.proofs.Kept.{Law, Requests}
+use Rattle.cfs_meaning.proofs.Quiet.{quiet-doubt, quiet-recorded, quiet-selected, quiet-settled}
 
 -- ---- journal and checkpoint
 
@@ -32,18 +32,18 @@ kept-store base change =
 
 -- ---- requests
 
-pub kept-ask : (law : Law) (c : ℕ) (request : NameRequest) →
+pub kept-ask : (law : Law) → Requests law → (c : ℕ) (request : NameRequest) →
     Keeps law.base Any (ask c law.line request)
-kept-ask law c request = record { means = law.asks c request }
+kept-ask law requests c request = record { means = requests.asks c request }
 
 -- ---- the lines' ends
 
-pub kept-open : (law : Law) (c : ℕ) (appends : Bool) (reply : NameAnswer) →
+pub kept-open : (law : Law) → Requests law → (c : ℕ) (appends : Bool) (reply : NameAnswer) →
     Keeps law.base IsGiven (open_with c appends reply)
-kept-open law c appends (names.granted grant) =
-    keep-look (λ w. keep-then (keep-changes (quiet-descriptors c _)) (λ u a. keep-give tt))
-kept-open law c appends (names.numbered ino) = keep-never
-kept-open law c appends names.done = keep-never
+kept-open law requests c appends (names.granted grant) =
+    keep-look (λ w. keep-then (record { means = requests.opens c _ }) (λ u a. keep-give tt))
+kept-open law requests c appends (names.numbered ino) = keep-never
+kept-open law requests c appends names.done = keep-never
 
 pub kept-made : (law : Law) (reply : NameAnswer) → Keeps law.base IsGiven (say_made reply)
 kept-made law (names.granted grant) = keep-never
@@ -53,10 +53,11 @@ kept-made law names.done = keep-never
 pub kept-named : (law : Law) → Keeps law.base IsGiven say_named
 kept-named law = keep-look (λ w. keep-give tt)
 
-kept-purges : (law : Law) → Keeps law.base Any purge_all
+pub kept-purges : (law : Law) → Keeps law.base Any purge_all
 kept-purges law = keep-look (λ w. keep-each (dying w) (λ ino. keep-shrugs (kept-purge law ino)))
 
 pub kept-ask-purge : (law : Law) (c : ℕ) (request : NameRequest) →
+    Keeps law.base Any (ask c law.line request) →
     Keeps law.base IsGiven (ask_and_purge c law.line request)
-kept-ask-purge law c request =
-    keep-then (keep-then (kept-ask law c request) (λ u a. kept-purges law)) (λ u a. kept-named law)
+kept-ask-purge law c request kept =
+    keep-then (keep-then kept (λ u a. kept-purges law)) (λ u a. kept-named law)

@@ -13,7 +13,7 @@ use Rattle.cfs_meaning.specs.Laws.{AreLogsOfLines, AreOfLines, LogsFollowLines, 
 use Rattle.cfs_meaning.specs.Play.{steps_so}
 use Rattle.cfs_meaning.proofs.Keeping.{Any}
 use Rattle.cfs_meaning.proofs.Kept.{IsOfLine}
-use Rattle.cfs_meaning.proofs.Worlds.{WorldLaw, law_of, moves}
+use Rattle.cfs_meaning.proofs.Worlds.{NameLaw, WorldLaw, law_of, moves, requests_of}
 use Rattle.cfs_meaning.proofs.Lines.{Powers, line-kept}
 use Rattle.cfs_meaning.proofs.Quiet as quiet
 use Rattle.cfs_meaning.proofs.Reached.{all-made-have}
@@ -76,9 +76,14 @@ log_law line = record {
       (λ up. after-event line (core_in world ino) e own
       (quiet.file-has (Goes line) world ino (λ k. omega arith) holds up))
       holds;
+}
+
+log-names : (line : ℕ) → NameLaw (log_law line)
+log-names line = record {
   asks = λ c request rec step world is holds.
       quiet.joined (Goes line) world.files _ holds
       (all-made-have (Goes line) (λ ino. omega arith) (changes_of world.names.now request rec));
+  opens = λ c change world holds. holds;
 }
 
 log-powers : (line : ℕ) → Powers (law_of (log_law line))
@@ -97,5 +102,7 @@ all-widened to more (f ∷ files) high all =
 
 pub logs-follow : LogsFollowLines
 logs-follow old new line out to up (steps_so end way) low all =
-    (line-kept (log_law line.number) (log-powers line.number) line.form old end new up
+    (line-kept (log_law line.number)
+    (requests_of (log_law line.number) (log-names line.number)) (log-powers line.number)
+    line.form old end new up
     (all-widened to line.number old.files low all) way).1

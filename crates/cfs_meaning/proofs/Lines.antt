@@ -13,7 +13,7 @@ use Rattle.cfs_meaning.specs.Play.{crash_in, does, joined, mount_line, plan, pla
 use Rattle.cfs_meaning.specs.Ways.{Changes, Fault, Halt, Says, ends, follows, gives, halts, now}
 use Rattle.cfs_meaning.proofs.Keeping.{Any, Base, Keeps, keep-each, keep-give, keep-known, keep-look, keep-steps, keep-then, keep-when}
 use Rattle.cfs_meaning.proofs.KeptLines.{IsGivenIfAny, is_plain, kept-plain}
-use Rattle.cfs_meaning.proofs.Kept.{Law}
+use Rattle.cfs_meaning.proofs.Kept.{Law, Requests}
 use Rattle.cfs_meaning.proofs.Worlds.{EndsAs, WorldLaw, law_of}
 
 -- what stops, plans, crashes and callers change is kept to
@@ -49,13 +49,13 @@ kept-power law powers (forms.FailRead device k) rough other =
 kept-power law powers form rough other = absurd (cc)
 
 -- every line but a mount
-pub kept-form : (law : Law) → Powers law → (form : Form) → is_mount form ≡ false →
-    Keeps law.base IsGivenIfAny (does law.line form)
-kept-form law powers form other = by-kind (is_plain form) refl
+pub kept-form : (law : Law) → Requests law → Powers law → (form : Form) →
+    is_mount form ≡ false → Keeps law.base IsGivenIfAny (does law.line form)
+kept-form law requests powers form other = by-kind (is_plain form) refl
   where
     by-kind : (plain : Bool) → is_plain form ≡ plain →
         Keeps law.base IsGivenIfAny (does law.line form)
-    by-kind true is = kept-plain law form is
+    by-kind true is = kept-plain law requests form is
     by-kind false is = kept-power law powers form is other
 
 -- ---- mounts
@@ -110,14 +110,16 @@ says-kept law (Err halt) is =
     halt-of (Err h) = h
 
 -- each line of a mounted store keeps the law
-pub line-kept : (law : WorldLaw) → Powers (law_of law) → (form : Form) (old : World)
+pub line-kept : (law : WorldLaw) → Requests (law_of law) → Powers (law_of law) → (form : Form)
+    (old : World)
     (end : Result (Option Printed) Halt) (new : World) → old.phase ≡ Up → law.fact.Holds old →
     does law.line form old end new → EndsAs law.fact IsGivenIfAny end × law.fact.Holds new
-line-kept law powers form old end new up holds way = by-kind (is_mount form) refl
+line-kept law requests powers form old end new up holds way = by-kind (is_mount form) refl
   where
     by-kind : (mount : Bool) → is_mount form ≡ mount →
         EndsAs law.fact IsGivenIfAny end × law.fact.Holds new
-    by-kind false is = (kept-form (law_of law) powers form is).means.by old end new holds way
+    by-kind false is =
+        (kept-form (law_of law) requests powers form is).means.by old end new holds way
     by-kind true is =
         let here : does law.line forms.Mount old end new =
         subst (λ f. does law.line f old end new) (only-mount form is) way in

@@ -16,7 +16,7 @@ use Rattle.cfs_meaning.specs.Laws.{AnswersAreOnly, IsGiven, is_mount}
 use Rattle.cfs_meaning.specs.Play.{Run, Step, does, goes_on, mount, mount_line, printed, run_ends, steps_so}
 use Rattle.cfs_meaning.specs.Ways.{Changes, Fault, Halt, Says, Waits, Way}
 use Rattle.cfs_meaning.proofs.Keeping.{Any, Keeps, keep-each, keep-give, keep-known, keep-look, keep-say, keep-then}
-use Rattle.cfs_meaning.proofs.Kept.{Law}
+use Rattle.cfs_meaning.proofs.Kept.{Law, Requests}
 use Rattle.cfs_meaning.proofs.KeptLines.{IsGivenIfAny}
 use Rattle.cfs_meaning.proofs.KeptNames.{kept-store}
 use Rattle.cfs_meaning.proofs.Worlds.{refusal-given}
@@ -92,11 +92,16 @@ single_law line = record {
   base = single_base;
   line = line;
   comes = λ ino e own. record { only = comes-only; value = λ old end new way a is. tt };
-  asks = λ c request. (single-ask line c request).means;
   helps = λ ino skipped jobs place.
       record { only = helps-only skipped jobs; value = λ old end new way a is. tt };
   defers = λ ino place way move kept quiet.
       record { only = defers-only kept; value = λ old end new way a is. tt };
+}
+
+single-requests : (line : ℕ) → Requests (single_law line)
+single-requests line = record {
+  asks = λ c request. (single-ask line c request).means;
+  opens = λ c change. single-change;
 }
 
 -- ---- lines
@@ -126,7 +131,8 @@ single-line line form = by-kind (is_mount form) refl
   where
     by-kind : (mounts : Bool) → is_mount form ≡ mounts →
         Keeps single_base IsGivenIfAny (does line form)
-    by-kind false is = kept-form (single_law line) (single-powers line) form is
+    by-kind false is =
+        kept-form (single_law line) (single-requests line) (single-powers line) form is
     by-kind true is =
         subst (λ f. Keeps single_base IsGivenIfAny (does line f)) (sym (only-mount form is))
         (keep-then (keep-look (λ w. single-phase w.phase)) (λ answer given. keep-give given))

@@ -3,14 +3,15 @@ use Rattle.std.proofs.Common.{◌≡◌, ℕ, Bool, true, false, List, refl, sym
 use Rattle.cfs_requests.specs.Steps.{NameEntry}
 use Rattle.cfs_requests.proofs.Orders.{orders-go-on}
 use Rattle.cfs_script.specs.declared.form.Form.{Form}
-use Rattle.cfs_meaning.specs.NameSteps.{AreInOrder, Order}
+use Rattle.cfs_meaning.specs.NameSteps.{AreInOrder, Order, changes_of, record_made}
 use Rattle.cfs_meaning.specs.World.{Down, Failed, Phase, Up}
 use Rattle.cfs_meaning.specs.Laws.{AreNamesLegal, IsGiven, NamesStayLegal, is_mount}
 use Rattle.cfs_meaning.specs.Play.{does, mount, mount_line, steps_so}
 use Rattle.cfs_meaning.proofs.Keeping.{Any, Keeps, keep-give, keep-look, keep-say, keep-then}
-use Rattle.cfs_meaning.proofs.Worlds.{WorldLaw, law_of, moves}
+use Rattle.cfs_meaning.proofs.Worlds.{NameLaw, WorldLaw, law_of, moves, requests_of}
 use Rattle.cfs_meaning.proofs.KeptLines.{IsGivenIfAny}
 use Rattle.cfs_meaning.proofs.Lines.{Powers, kept-form, kept-home, only-mount}
+use Rattle.cfs_meaning.proofs.Recorded.{step-made}
 
 alike : {b b' : Order} {l l' : List NameEntry} {n n' : Order} → b' ≡ b → l' ≡ l → n' ≡ n →
     AreInOrder b l n → AreInOrder b' l' n'
@@ -33,9 +34,21 @@ order_law line = record {
   };
   line = line;
   comes = λ ino e world own may_be holds. holds;
+}
+
+order-names : (line : ℕ) → NameLaw (order_law line)
+order-names line = record {
   asks = λ c request rec step world is holds.
       orders-go-on world.names.base world.names.now step.1 world.names.log
-      (record { caller = c; line = line; request = request; rec = rec; answer = step.0 }) holds is;
+      (record {
+        caller = c;
+        line = line;
+        request = request;
+        rec = record_made (changes_of world.names.now request rec);
+        answer = step.0;
+      })
+      holds (step-made world.names.now c request rec step is);
+  opens = λ c change world holds. holds;
 }
 
 order-powers : (line : ℕ) → Powers (law_of (order_law line))
@@ -66,7 +79,9 @@ kept-line line form = by-kind (is_mount form) refl
   where
     by-kind : (mounts : Bool) → is_mount form ≡ mounts →
         Keeps (law_of (order_law line)).base IsGivenIfAny (does line form)
-    by-kind false is = kept-form (law_of (order_law line)) (order-powers line) form is
+    by-kind false is =
+        kept-form (law_of (order_law line)) (requests_of (order_law line) (order-names line))
+        (order-powers line) form is
     by-kind true is =
         subst (λ f. Keeps (law_of (order_law line)).base IsGivenIfAny (does line f))
         (sym (only-mount form is))

@@ -19,7 +19,8 @@ use Rattle.cfs_meaning.specs.Names.{files_made}
 use Rattle.cfs_meaning.specs.Laws.{AreReached, CoresStayReached, FilesAreGood, RunsKeepCores, is_mount, OfEachCore}
 use Rattle.cfs_meaning.specs.Play.{Step, goes_on, run_ends, steps_so}
 use Rattle.cfs_meaning.proofs.Keeping.{Any}
-use Rattle.cfs_meaning.proofs.Worlds.{WorldLaw, law_of, moves}
+use Rattle.cfs_meaning.proofs.Kept.{Requests}
+use Rattle.cfs_meaning.proofs.Worlds.{NameLaw, WorldLaw, law_of, moves, requests_of}
 use Rattle.cfs_meaning.proofs.Lines.{Powers, kept-form, line-kept}
 use Rattle.cfs_meaning.proofs.Quiet as quiet
 
@@ -81,10 +82,18 @@ reached_law line = record {
       (λ up. comes (core_in world ino) e
       (quiet.file-has Reached world ino (λ k. empty-reached) holds up) may_be)
       holds;
+}
+
+reached-names : (line : ℕ) → NameLaw (reached_law line)
+reached-names line = record {
   asks = λ c request rec step world is holds.
       quiet.joined Reached world.files _ holds
       (all-made-have Reached (λ ino. empty-reached) (changes_of world.names.now request rec));
+  opens = λ c change world holds. holds;
 }
+
+pub reached-requests : (line : ℕ) → Requests (law_of (reached_law line))
+reached-requests line = requests_of (reached_law line) (reached-names line)
 
 reached-powers : (line : ℕ) → Powers (law_of (reached_law line))
 reached-powers line = record {
@@ -96,8 +105,8 @@ reached-powers line = record {
 
 pub cores-stay : CoresStayReached
 cores-stay old new line out up (steps_so end way) reached =
-    (line-kept (reached_law line.number) (reached-powers line.number) line.form old end new up
-    reached way).1
+    (line-kept (reached_law line.number) (reached-requests line.number)
+    (reached-powers line.number) line.form old end new up reached way).1
 
 all-good : (files : List File) → OfEachCore Reached files →
     OfEachCore (λ ino core. IsGood core) files
@@ -111,9 +120,8 @@ files-good world reached = all-good world.files reached
 step-keeps : {old new : World} {line : Line} {out : List OutLine} → is_mount line.form ≡ false →
     Step line old out new → AreReached old → AreReached new
 step-keeps {new = new} {line = line} other (steps_so end way) reached =
-    ((kept-form (law_of (reached_law line.number)) (reached-powers line.number) line.form
-    other).means.by
-    _ end new reached way).1
+    ((kept-form (law_of (reached_law line.number)) (reached-requests line.number)
+    (reached-powers line.number) line.form other).means.by _ end new reached way).1
 
 pub runs-keep : RunsKeepCores
 runs-keep old new [] outs none run_ends reached = reached

@@ -35,7 +35,7 @@ use Rattle.cfs_meaning.proofs.KeptInode.{kept-read}
 use Rattle.cfs_meaning.proofs.KeptFiles.{kept-clear, kept-opened, kept-to-read}
 use Rattle.cfs_meaning.proofs.KeptLines.{IsGivenIfAny, is_plain, kept-plain}
 use Rattle.cfs_meaning.proofs.Kept.{Law}
-use Rattle.cfs_meaning.proofs.Worlds.{EndsAs, WorldLaw, law_of}
+use Rattle.cfs_meaning.proofs.Worlds.{EndsAs, NameLaw, WorldLaw, law_of, requests_of}
 use Rattle.cfs_meaning.proofs.Quiet as quiet
 use Rattle.cfs_meaning.proofs.Reached.{empty-reached, reached_law}
 
@@ -343,7 +343,12 @@ said_law line = record {
   };
   line = line;
   comes = λ ino e world own may_be holds. tt;
+}
+
+said-names : (line : ℕ) → NameLaw (said_law line)
+said-names line = record {
   asks = λ c request rec step world is holds. tt;
+  opens = λ c change world holds. tt;
 }
 
 abbrev is_got : Printed → Bool
@@ -394,5 +399,6 @@ pub reads-right : ReadsAreRight
 reads-right old new line out number ino place bytes mounted reached reads (steps_so end way) is =
     printed-right line.number new end number ino place bytes
     (form-right line.number line.form reads old end new reached mounted way)
-    ((kept-plain (law_of (said_law line.number)) line.form (reading-plain line.form reads)).means.by
-    old end new tt way).0 is
+    ((kept-plain (law_of (said_law line.number))
+    (requests_of (said_law line.number) (said-names line.number)) line.form
+    (reading-plain line.form reads)).means.by old end new tt way).0 is

@@ -13,13 +13,13 @@ use Rattle.cfs_print.specs.declared.printed.Printed.{Printed}
 use Rattle.cfs_print.specs.declared.printed.Printed.TheVariants.{NoNumber, NoRecord}
 use Rattle.cfs_meaning.specs.Drive.{Op, attempt}
 use Rattle.cfs_meaning.specs.NameSteps.{Order, changes_of, refusal_of, step_of}
-use Rattle.cfs_meaning.specs.World.{World, core_in, with_core}
+use Rattle.cfs_meaning.specs.World.{Descriptor, World, core_in, with_core, with_descriptors}
 use Rattle.cfs_meaning.specs.Names.{ask, free_record, log_step, refusal_answer, step_in, store_change}
 use Rattle.cfs_meaning.specs.Inode.{Comes, comes, run_job, skip}
 use Rattle.cfs_meaning.specs.Files.{Defers, Helps, defers, fails, fails_first, faults, helps_first, is_behind, is_out_itself, serves, skips, works, works_on}
 use Rattle.cfs_meaning.specs.Ways.{Changes, changes, Ends, Fault, Gives, Halt, Mends, Now, Repeats, Says, Shrugs, Then, Tries, Waits, Way, breaks, breaks_later, counts, each, ends, follows, give, gives, halts, known, mends, now, rests, says, shrugs, tried, waits, well, whole, ◌>>=◌, ◌>>◌}
 use Rattle.cfs_meaning.proofs.Keeping.{Any, Base, IsQuiet, IsSaid, keep-each, keep-known}
-use Rattle.cfs_meaning.proofs.Kept.{IsOfLine, Law}
+use Rattle.cfs_meaning.proofs.Kept.{IsOfLine, Law, Requests}
 use Rattle.cfs_meaning.proofs.KeptNames.{kept-store}
 
 -- What holds of worlds, what a try of operations may say, and how a part may end.
@@ -125,16 +125,21 @@ base_of fact = record {
   shrugging = λ {way} kept. record { by = shrugs-by kept };
 }
 
--- Beside that: what events and requests on names keep, in the line of a number.
+-- Beside that: what events keep, in the line of a number.
 pub record WorldLaw : Type 1 where
   pub fact : Fact
   pub line : ℕ
   pub comes : (ino : ℕ) (e : Event) (world : World) → IsOfLine line e →
       may (core_in world ino) e ≡ true → fact.Holds world →
       fact.Holds (with_core ino (after (core_in world ino) e) world)
+
+-- Beside that: what requests on names keep, and descriptors that are opened.
+pub record NameLaw (law : WorldLaw) : Type 0 where
   pub asks : (c : ℕ) (request : NameRequest) (rec : Option ℕ) (step : NameAnswer × Order)
       (world : World) → step_of world.names.now c request rec ≡ Some step →
-      fact.Holds world → fact.Holds (log_step c line request rec step world)
+      law.fact.Holds world → law.fact.Holds (log_step c law.line request rec step world)
+  pub opens : (c : ℕ) (change : List Descriptor → List Descriptor) (world : World) →
+      law.fact.Holds world → law.fact.Holds (with_descriptors c change world)
 
 pub comes-by : (law : WorldLaw) {ino : ℕ} {e : Event} → IsOfLine law.line e →
     (old : World) (end : Result (Unit {0}) Halt) (new : World) → law.fact.Holds old →
@@ -173,50 +178,51 @@ both one other = record {
   says = λ answer given. (one.says answer given, other.says answer given);
 }
 
--- from a world with two laws to one with the first of them
-record Leads (one other : Fact) {A : Type 0} (R : A → Type 0) (way : Way A) : Type 0 where
-  by : (old : World) (end : Result A Halt) (new : World) → one.Holds old → other.Holds old →
-      way old end new → EndsAs one R end × one.Holds new
+-- how a part ends: with its value Q holds of it and the world behind it
+abbrev pub EndsIn : (fact : Fact) → {A : Type 0} → (A → World → Type 0) → Result A Halt → World →
+    Type 0
+EndsIn fact Q (Ok a) world = Q a world
+EndsIn fact Q (Err halt) world = fact.MayEnd halt × fact.Holds world
 
-lead-by : {one other : Fact} {A B : Type 0} {R : A → Type 0} {S : B → Type 0} {first : Way A}
-    {next : A → Way B} → Holding (both one other) R first →
-    ((a : A) → R a → Leads one other S (next a)) →
+-- from a world with two laws to one where Q holds
+record Leads (one other : Fact) {A : Type 0} (Q : A → World → Type 0) (way : Way A) : Type 0 where
+  by : (old : World) (end : Result A Halt) (new : World) → one.Holds old → other.Holds old →
+      way old end new → EndsIn one Q end new
+
+lead-by : {one other : Fact} {A B : Type 0} {R : A → Type 0} {Q : B → World → Type 0}
+    {first : Way A} {next : A → Way B} → Holding (both one other) R first →
+    ((a : A) → R a → Leads one other Q (next a)) →
     (old : World) (end : Result B Halt) (new : World) → one.Holds old → other.Holds old →
-    Then first next old end new → EndsAs one S end × one.Holds new
+    Then first next old end new → EndsIn one Q end new
 lead-by first more old end new holds also (ends way) =
     let kept = first.by _ _ _ (holds, also) way in (kept.0.0, kept.1.0)
 lead-by first more old end new holds also (follows way rest) =
     let kept = first.by _ _ _ (holds, also) way in (more _ kept.0).by _ _ _ kept.1.0 kept.1.1 rest
 
-lead-then : {one other : Fact} {A B : Type 0} {R : A → Type 0} {S : B → Type 0} {first : Way A}
-    {next : A → Way B} → Holding (both one other) R first →
-    ((a : A) → R a → Leads one other S (next a)) → Leads one other S (first >>= next)
+lead-then : {one other : Fact} {A B : Type 0} {R : A → Type 0} {Q : B → World → Type 0}
+    {first : Way A} {next : A → Way B} → Holding (both one other) R first →
+    ((a : A) → R a → Leads one other Q (next a)) → Leads one other Q (first >>= next)
 lead-then first more = record { by = lead-by first more }
 
--- the step is logged where its tree and grants still stand
-log-by : (law : WorldLaw) (order : Order) (c : ℕ) (request : NameRequest)
-    (rec : Option ℕ) (step : NameAnswer × Order) → step_of order c request rec ≡ Some step →
-    (old : World) (end : Result (Unit {0}) Halt) (new : World) → law.fact.Holds old →
-    (same_names order).Holds old →
-    Changes (log_step c law.line request rec step) old end new →
-    EndsAs law.fact Any end × law.fact.Holds new
-log-by law order c request rec step is old end new holds same changes = (
-  tt,
-  law.asks c request rec step old (
-      ap (λ (n : Order). step_of n c request rec) same ∙ is
-      ) holds,
-)
+-- what holds where a request was logged that a world with the law took
+abbrev pub Logs : (law : WorldLaw) → ℕ → NameRequest → (NameAnswer → World → Type 0) → Type 0
+Logs law c request Q =
+    (rec : Option ℕ) (step : NameAnswer × Order) (world : World) →
+    step_of world.names.now c request rec ≡ Some step → law.fact.Holds world →
+    Q step.0 (log_step c law.line request rec step world)
 
+-- the step is logged where its tree and grants still stand
 log-then-by : (law : WorldLaw) (order : Order) (c : ℕ) (request : NameRequest)
+    (Q : NameAnswer → World → Type 0) → Logs law c request Q →
     (rec : Option ℕ) (step : NameAnswer × Order) → step_of order c request rec ≡ Some step →
     (old : World) (end : Result NameAnswer Halt) (new : World) → law.fact.Holds old →
     (same_names order).Holds old →
     Then (Changes (log_step c law.line request rec step)) (λ u. give step.0) old end new →
-    EndsAs law.fact Any end × law.fact.Holds new
-log-then-by law order c request rec step is old end new holds same (ends way) =
-    log-by law order c request rec step is old (Err _) new holds same way
-log-then-by law order c request rec step is old end new holds same (follows way gives) =
-    (tt, (log-by law order c request rec step is old (Ok tt) _ holds same way).1)
+    EndsIn law.fact Q end new
+log-then-by law order c request Q logs rec step is old end new holds same (ends way) =
+    elim way [ ]
+log-then-by law order c request Q logs rec step is old end new holds same (follows changes gives) =
+    logs rec step old (ap (λ (n : Order). step_of n c request rec) same ∙ is) holds
 
 pub refusal-given : (w : World) (refusal : Option NameRefusal) → IsSaid (refusal_answer w refusal)
 refusal-given w None = tt
@@ -228,27 +234,36 @@ refusal-given w (Some (refusals.Tree posix.TooManyFiles)) = no-room (is_none (fr
     no-room false = tt
 refusal-given w (Some (refusals.Tree error)) = tt
 
-ask-from : (law : WorldLaw) (c : ℕ) (request : NameRequest) (w : World) →
-    Leads law.fact (same_names w.names.now) Any
+ask-from : (law : WorldLaw) (c : ℕ) (request : NameRequest) (Q : NameAnswer → World → Type 0) →
+    Logs law c request Q → (w : World) → Leads law.fact (same_names w.names.now) Q
     (known (step_in w c request (free_record w))
     (refusal_answer w (refusal_of w.names.now request (free_record w)))
     >>= (λ step. each (changes_of w.names.now request (free_record w)) store_change
     >>= (λ u. Changes (log_step c law.line request (free_record w) step) >> give step.0)))
-ask-from law c request w =
+ask-from law c request Q logs w =
     let two : Base = base_of (both law.fact (same_names w.names.now)) in
     lead-then (keep-known {base = two} (step_in w c request (free_record w)) _
     (refusal-given w (refusal_of w.names.now request (free_record w)))).means (λ step is.
     lead-then (keep-each {base = two} _ (kept-store two)).means (λ u a.
     record {
-      by = log-then-by law w.names.now c request (free_record w) step is;
+      by = log-then-by law w.names.now c request Q logs (free_record w) step is;
     }))
 
+pub ask-ends : (law : WorldLaw) (c : ℕ) (request : NameRequest) (Q : NameAnswer → World → Type 0) →
+    Logs law c request Q → (old : World) (end : Result NameAnswer Halt) (new : World) →
+    law.fact.Holds old → ask c law.line request old end new → EndsIn law.fact Q end new
+ask-ends law c request Q logs old end new holds (ends way) = elim way [ ]
+ask-ends law c request Q logs old end new holds (follows now rest) =
+    (ask-from law c request Q logs old).by old end new holds refl rest
+
 pub ask-by : (law : WorldLaw) (c : ℕ) (request : NameRequest) →
+    Logs law c request (λ reply. law.fact.Holds) →
     (old : World) (end : Result NameAnswer Halt) (new : World) → law.fact.Holds old →
     ask c law.line request old end new → EndsAs law.fact Any end × law.fact.Holds new
-ask-by law c request old end new holds (ends way) = elim way [ ]
-ask-by law c request old end new holds (follows now rest) =
-    (ask-from law c request old).by old end new holds refl rest
+ask-by law c request logs old (Ok reply) new holds way =
+    (tt, ask-ends law c request (λ answer. law.fact.Holds) logs old (Ok reply) new holds way)
+ask-by law c request logs old (Err halt) new holds way =
+    ask-ends law c request (λ answer. law.fact.Holds) logs old (Err halt) new holds way
 
 -- ---- helping, and reads that wait
 
@@ -290,7 +305,6 @@ law_of law = record {
   base = base_of law.fact;
   line = law.line;
   comes = λ ino e own. record { by = comes-by law own };
-  asks = λ c request. record { by = ask-by law c request };
   helps = λ ino skipped jobs place. record { by = helps-by law.fact skipped jobs };
   defers = λ ino place way move kept quiet. record { by = defers-by law.fact kept quiet };
 }
@@ -306,3 +320,9 @@ pub moves : (fact : Fact) {change : World → World} →
     ((world : World) → fact.Holds world → fact.Holds (change world)) →
     Holding fact Any (Changes change)
 moves fact kept = record { by = moved-by fact kept }
+
+pub requests_of : (law : WorldLaw) → NameLaw law → Requests (law_of law)
+requests_of law names = record {
+  asks = λ c request. record { by = ask-by law c request (names.asks c request) };
+  opens = λ c change. moves law.fact (names.opens c change);
+}

@@ -33,7 +33,7 @@ use Rattle.cfs_block.specs.BlockOps.{flush, get_bytes, put_bytes}
 use Rattle.cfs_medium.specs.Store.{tag_of}
 use Rattle.cfs_meaning.specs.Drive.{Block, Op, Word, content_at}
 use Rattle.cfs_meaning.specs.Steps.{gate_closed, gate_opened, marked, offset_set, payload_read, size_word, slot, tag_kept}
-use Rattle.cfs_meaning.specs.World.{Descriptor, File, Held, Queue, World, all_placed, block_of, core_in, devices_of, file_in, head_of, held_at, placed, with_core, with_descriptor, with_file, with_queue, without}
+use Rattle.cfs_meaning.specs.World.{Descriptor, File, Held, Queue, World, all_placed, block_of, core_in, devices_of, file_in, head_of, held_at, placed, with_core, with_descriptors, with_file, with_queue, without}
 use Rattle.cfs_meaning.specs.Ways.{Changes, Fault, Halt, Mends, Now, Tries, Way, done, each, end_with, give, steps, unless_fault, when, ◌>>=◌, ◌>>◌}
 
 -- An event comes to the core of a file. One that may not come has no way.
@@ -419,8 +419,9 @@ purge ino = do
 
 -- ---- reads
 
-abbrev pub with_posted : ℕ → Descriptor → Descriptor
-with_posted place d = record d { posted = place ∷ d.posted }
+-- the descriptor of a number made the read or sync of a place
+abbrev pub with_posted : ℕ → ℕ → Descriptor → Descriptor
+with_posted fd place d = if d.fd == fd then record d { posted = place ∷ d.posted } else d
 
 -- a read or sync of a descriptor takes its place, which is the value
 abbrev pub admit_read : Descriptor → ℕ → ℕ → Request → Way ℕ
@@ -430,7 +431,7 @@ admit_read d c line request = do
   let place = length (core_in world ino).log + 1
   event ino (events.AdmitRead
       (record { ino = ino; place = place; caller = c; line = line; request = request }))
-  Changes (with_descriptor c (with_posted place d))
+  Changes (with_descriptors c (map (with_posted d.fd place)))
   give place
 
 -- each block that has one of the bytes is read; the value is the bytes

@@ -1,5 +1,5 @@
 -- What holds of every run of a script.
-use Rattle.std.specs.Prelude.{◌≡◌, ℕ, ◌-◌, ◌≤◌, Bool, true, false, Some, List, [], ◌∷◌}
+use Rattle.std.specs.Prelude.{◌≡◌, ℕ, ◌-◌, ◌≤◌, Bool, true, false, Option, Some, List, [], ◌∷◌}
 use Rattle.std.specs.List.{slice_get}
 use Rattle.cfs_file.specs.declared.entry.Entry.{Entry}
 use Rattle.cfs_file.specs.File.{answer}
@@ -8,6 +8,9 @@ use Rattle.cfs_pmem.specs.Meter.{plans_of, supply_of}
 use Rattle.cfs_core.specs.declared.inode_core.Core.{Core}
 use Rattle.cfs_core.specs.Good.{IsGood, bytes_of, file_before}
 use Rattle.cfs_core_laws.specs.Reached.{IsReached}
+use Rattle.cfs_dir.specs.Change.{changed_by}
+use Rattle.cfs_dir.specs.Tree.{IsTree}
+use Rattle.cfs_requests.specs.Steps.{NameAnswer, NameRequest}
 use Rattle.cfs_script.specs.declared.form.Form.{Form}
 use Rattle.cfs_script.specs.declared.form.Form.TheVariants as forms
 use Rattle.cfs_script.specs.declared.line.Line.{Line}
@@ -15,7 +18,7 @@ use Rattle.cfs_print.specs.declared.out_line.OutLine.{OutLine}
 use Rattle.cfs_print.specs.declared.printed.Printed.{Printed}
 use Rattle.cfs_print.specs.declared.printed.Printed.TheVariants as answers
 use Rattle.cfs_meaning.specs.Drive.{Drive}
-use Rattle.cfs_meaning.specs.NameSteps.{AreInOrder}
+use Rattle.cfs_meaning.specs.NameSteps.{AreInOrder, Order, changes_of, step_of, tree_of}
 use Rattle.cfs_meaning.specs.World.{File, Up, World}
 use Rattle.cfs_meaning.specs.Play.{Run, Step}
 
@@ -104,6 +107,14 @@ abbrev pub NamesStayLegal : Type 0
 NamesStayLegal =
     (old new : World) (line : Line) (out : List OutLine) → Step line old out new →
     AreNamesLegal old → AreNamesLegal new
+
+-- The changes that are stored for a request make the tree that its step leaves.
+abbrev pub ChangesMakeSteps : Type 0
+ChangesMakeSteps =
+    (order after : Order) (answer : NameAnswer) (c : ℕ) (request : NameRequest) (rec : Option ℕ) →
+    IsTree (tree_of order).nodes (tree_of order).next →
+    step_of order c request rec ≡ Some (answer, after) →
+    changed_by (tree_of order) (changes_of order request rec) ≡ tree_of after
 
 -- ---- logs
 

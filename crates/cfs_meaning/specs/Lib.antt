@@ -12,6 +12,9 @@ pub mod Workers
 pub mod Mounting
 pub mod Play
 pub mod Laws
+pub mod Granted
+pub mod Answered
+pub mod Devices
 pub mod Example
 pub mod Scripts
 pub mod Real

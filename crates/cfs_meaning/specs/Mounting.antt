@@ -18,6 +18,7 @@ use Rattle.cfs_slot.specs.Words.{gate_of, ino_of, is_live, mark_of, request_of, 
 use Rattle.cfs_journal.specs.Standing.{changes_above}
 use Rattle.cfs_ckpt.specs.Loads.{loaded}
 use Rattle.cfs_names.specs.Recovered.{recovered}
+use Rattle.cfs_image.specs.Layout.{queues_of}
 use Rattle.cfs_medium.specs.Store.{Store, stored_file, tag_of}
 use Rattle.cfs_meaning.specs.Drive.{Block, Drive, Op, content_at, words_at}
 use Rattle.cfs_meaning.specs.NameSteps.{new_order}
@@ -240,7 +241,7 @@ mounted_names queues drive = record {
 }
 
 abbrev pub queue_count : Drive → ℕ
-queue_count drive = length (slots_in drive) / 16
+queue_count drive = queues_of (length drive.regions)
 
 -- The world of a store whose gates are closed: places, places of requests on names and grants begin
 -- at 1, nothing is open, and the callers are these.

@@ -93,3 +93,8 @@ changes_of order (removes_directory credential path) rec =
 changes_of order (moves_node credential from to) rec =
     moved_changes order.tree.nodes (moves order.tree credential from to)
 changes_of order (closes_queue queue) rec = []
+
+-- the record of the node that is made, if one is
+abbrev pub record_made : List Change → Option ℕ
+record_made (Create node ∷ rest) = Some node.rec
+record_made other = None

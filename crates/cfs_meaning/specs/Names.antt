@@ -15,7 +15,7 @@ use Rattle.cfs_print.specs.declared.printed.Printed.{Printed}
 use Rattle.cfs_print.specs.declared.printed.Printed.TheVariants.{Made, Named, NoNumber, NoQueue, NoRecord, Opened, Refused, RefusedAt}
 use Rattle.cfs_meaning.specs.Drive.{words_at}
 use Rattle.cfs_meaning.specs.Steps.{appended, on_tables, record_closed, selector}
-use Rattle.cfs_meaning.specs.NameSteps.{Order, changes_of, refusal_of, step_of, tree_of}
+use Rattle.cfs_meaning.specs.NameSteps.{Order, changes_of, record_made, refusal_of, step_of, tree_of}
 use Rattle.cfs_meaning.specs.World.{Descriptor, File, Names, World, caller_in, is_in_tree, is_open, is_used, new_file, open_of, with_descriptors, with_names}
 use Rattle.cfs_meaning.specs.Inode.{purge}
 use Rattle.cfs_meaning.specs.Ways.{Changes, Now, Shrugs, Tries, Way, each, give, known, never, only_if, steps, unless_fault, when, ◌>>=◌, ◌>>◌}
@@ -96,12 +96,19 @@ files_made (changes.Create node) =
     if is_directory node.kind then [] else new_file node.ino node.rec ∷ []
 files_made other = []
 
--- the request is logged, and the tree and the grants are as its step leaves them
+-- The request is logged, with the record of a node that it makes. The tree and the grants are as
+-- its step leaves them.
 abbrev pub log_step : ℕ → ℕ → NameRequest → Option ℕ → NameAnswer × Order → World → World
 log_step c line request rec step world = record world {
   names = record world.names {
     log = world.names.log
-        ++ record { caller = c; line = line; request = request; rec = rec; answer = step.0 } ∷ [];
+        ++ record {
+          caller = c;
+          line = line;
+          request = request;
+          rec = record_made (changes_of world.names.now request rec);
+          answer = step.0;
+        } ∷ [];
     now = step.1;
   };
   files = world.files ++ flat_map files_made (changes_of world.names.now request rec);

@@ -1,6 +1,9 @@
 //! What holds of every run, as contracts of functions that do nothing.
 
-ghost use Rattle.cfs_meaning.specs.Laws.{AnswersAreOnly, CalmRunsAnswer, CoresStayReached, FilesAreGood, LogsFollowLines, NamesStayLegal, ReadsAreRight, RunsKeepCores};
+ghost use Rattle.cfs_meaning.specs.Answered.{LinesHaveAnswers};
+ghost use Rattle.cfs_meaning.specs.Devices.{CrashesLeaveLess, CrashesRecover, LinesKeepShown, ShownFilesRecover};
+ghost use Rattle.cfs_meaning.specs.Granted.{OpenFilesAreGranted};
+ghost use Rattle.cfs_meaning.specs.Laws.{AnswersAreOnly, CalmRunsAnswer, ChangesMakeSteps, CoresStayReached, FilesAreGood, LogsFollowLines, NamesStayLegal, ReadsAreRight, RunsKeepCores};
 
 /// While a store is mounted, each line makes of the core of each file one that the laws of cores
 /// hold of: so each file's log is legal, and a read is answered by the file before it.
@@ -25,6 +28,17 @@ pub fn names_stay_legal()
     ensures { NamesStayLegal }
 {}
 
+/// The changes that are stored for a request on names make the tree that its step leaves.
+pub fn changes_make_steps()
+    ensures { ChangesMakeSteps }
+{}
+
+/// Each open descriptor's grant stands in the table, at its queue and for its caller, so a close is
+/// never refused.
+pub fn open_files_are_granted()
+    ensures { OpenFilesAreGranted }
+{}
+
 /// Each log has its entries in the order of the lines that they come from.
 pub fn logs_follow_lines()
     ensures { LogsFollowLines }
@@ -43,4 +57,31 @@ pub fn reads_are_right()
 /// A script has one list of answers, and leaves one world.
 pub fn answers_are_only()
     ensures { AnswersAreOnly }
+{}
+
+/// At the end of every run each line that helps no entry and makes no step of a job has an answer.
+pub fn lines_have_answers()
+    ensures { LinesHaveAnswers }
+{}
+
+/// Where the devices show a world, whatever a crash leaves of each file recovers the file after its
+/// log, and then the request in doubt where its gate was left open.
+pub fn shown_files_recover()
+    ensures { ShownFilesRecover }
+{}
+
+/// Lines without a step of a device keep a world shown, and so do the steps of a job.
+pub fn lines_keep_shown()
+    ensures { LinesKeepShown }
+{}
+
+/// What a crash may leave of a file behind a crash, it may leave before it, so a file that is
+/// recovered stays so.
+pub fn crashes_leave_less()
+    ensures { CrashesLeaveLess }
+{}
+
+/// Behind a crash of a world that its devices show, each file recovers what it would have before.
+pub fn crashes_recover()
+    ensures { CrashesRecover }
 {}

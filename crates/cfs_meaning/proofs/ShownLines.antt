@@ -1,0 +1,271 @@
+-- Lines that keep a world shown by its devices.
+use Rattle.std.proofs.Common.{◌≡◌, ℕ, ◌+◌, Bool, true, false, not, Option, Some, None, List, ◌∷◌, length, refl, sym, ap, subst, if◌then◌else◌}
+use Rattle.std.specs.Prelude.{Result, Ok, Err}
+use Rattle.cfs_file.specs.declared.entry.Entry.{Entry}
+use Rattle.cfs_file.specs.declared.request.Request.{Request}
+use Rattle.cfs_core.specs.declared.event.Event.TheVariants as events
+use Rattle.cfs_medium.proofs.QuietEvents.{quiet-events-show}
+use Rattle.cfs_medium.proofs.ReadEvents.{reads-may-come}
+use Rattle.cfs_pmem.specs.declared.trace.Asked.{Asked}
+use Rattle.cfs_pmem.specs.declared.trace.Asked.TheVariants.{Stopped}
+use Rattle.cfs_print.specs.declared.printed.Printed.{Printed}
+use Rattle.cfs_script.specs.declared.form.Form.{Form}
+use Rattle.cfs_script.specs.declared.form.Form.TheVariants as forms
+use Rattle.cfs_words.specs.declared.device.Device.{Device}
+use Rattle.cfs_words.specs.declared.seek.Seek.{Seek}
+use Rattle.cfs_meaning.specs.Drive.{Drive}
+use Rattle.cfs_meaning.specs.World.{Descriptor, Down, Failed, Phase, Up, World, core_in, descriptor_in, file_in, with_descriptor, with_file}
+use Rattle.cfs_meaning.specs.Inode.{Absent, Behind, Ready, Verdict, admit_read, dispatch, verdict, with_passed}
+use Rattle.cfs_meaning.specs.Files.{at_position, has_no_power, list_queue, lseek, move_to, moved_by, opened, opened_to_read, post}
+use Rattle.cfs_meaning.specs.Workers.{apply_line, dispatch_by, dispatch_line, there}
+use Rattle.cfs_meaning.specs.Devices.{IsOfFile, IsShown, LinesKeepShown, keeps_shown}
+use Rattle.cfs_meaning.specs.Laws.{AreReached, is_mount}
+use Rattle.cfs_meaning.specs.Play.{does, mount_line, plan, planned, steps_so, stopped, told, up, while_up}
+use Rattle.cfs_meaning.specs.Ways.{Halt, Now, Way, give, known, now, refuse_if, ◌>>=◌}
+use Rattle.cfs_meaning.proofs.Hoare.{Leaves, leave-changes, leave-end, leave-event, leave-give, leave-known, leave-look, leave-refuse, leave-then, leave-weaker}
+use Rattle.cfs_meaning.proofs.Lines.{mount-up, only-mount}
+use Rattle.cfs_meaning.proofs.ShownJobs.{AtWork, apply-shown}
+use Rattle.cfs_meaning.proofs.ShownFiles.{asked-shown, event-shown, file-shown}
+use Rattle.cfs_meaning.proofs.Total.{IfEnds}
+
+-- the part keeps a world shown, however it ends
+abbrev Keeps : {A : Type 0} → Way A → Type 0
+Keeps way = Leaves IsShown (λ a. IsShown) IsShown way
+
+-- what follows a look at the world, where it does not matter
+any-look : {A : Type 0} {next : World → Way A} → ((x : World) → Keeps (next x)) →
+    Keeps (Now >>= next)
+any-look more =
+    leave-look (λ x.
+    leave-weaker {P = IsShown} (λ w holds. holds.1) (λ a w q. q) (λ w e. e) (more x))
+
+any-known : {A : Type 0} (option : Option A) (answer : Printed) →
+    Keeps (known option answer)
+any-known option answer =
+    leave-weaker {P = IsShown} (λ w holds. holds) (λ a w q. q.1) (λ w e. e)
+    (leave-known option answer (λ w holds. holds))
+
+any-refuse : (test : Bool) (answer : Printed) →
+    Keeps (refuse_if test answer)
+any-refuse test answer =
+    leave-weaker {P = IsShown} (λ w holds. holds) (λ a w q. q.1) (λ w e. e)
+    (leave-refuse test answer (λ w holds. holds))
+
+any-give : {A : Type 0} {a : A} → Keeps (give a)
+any-give = leave-give (λ w holds. holds)
+
+keep-phase : (phase : Phase) {way : Way Printed} → Keeps way → Keeps (while_up phase way)
+keep-phase Up one = one
+keep-phase Down one = leave-end (λ w holds. holds)
+keep-phase Failed one = leave-end (λ w holds. holds)
+
+keep-up : {way : Way Printed} → Keeps way → Keeps (up way)
+keep-up one = leave-then (any-look (λ x. keep-phase x.phase one)) (λ answer. any-give)
+
+keep-told : {way : Way Printed} → Keeps way → Keeps (told way)
+keep-told one = leave-then one (λ answer. any-give)
+
+-- ---- changes of neither devices nor files
+
+same-shown : (old new : World) → new.drive ≡ old.drive → new.files ≡ old.files →
+    new.names ≡ old.names → IsShown old → IsShown new
+same-shown old new drive files names shown =
+    subst (λ n. IsShown (record new { names = n })) (sym names)
+    (subst (λ f. IsShown (record new { names = old.names; files = f })) (sym files)
+    (subst (λ d. IsShown (record new { names = old.names; files = old.files; drive = d }))
+    (sym drive) (record {
+      files = shown.files;
+      apart = shown.apart;
+      placed = shown.placed;
+      even = shown.even;
+      tree = shown.tree;
+    })))
+
+moved-shown : (option : Option Descriptor) (c to : ℕ) (world : World) → IsShown world →
+    IsShown (moved_by option c to world)
+moved-shown None c to world shown = shown
+moved-shown (Some d) c to world shown = unless-off (has_no_power world.drive)
+  where
+    unless-off : (off : Bool) →
+        IsShown (if off then world else with_descriptor c (at_position to d) world)
+    unless-off true = shown
+    unless-off false = same-shown world _ refl refl refl shown
+
+keep-seek : (d : Descriptor) (c : ℕ) (seek : Seek) → Keeps (lseek d c seek)
+keep-seek d c seek =
+    leave-then (any-known _ _) (λ to.
+    leave-then (any-refuse _ _) (λ u.
+    leave-then (leave-changes (λ w shown.
+    moved-shown (descriptor_in w c d.fd) c to w shown)) (λ v. any-give)))
+
+keep-listed : (d : Descriptor) → Keeps (list_queue d)
+keep-listed d = any-look (λ x. any-give)
+
+keep-opened : (c fd : ℕ) → Keeps (opened c fd)
+keep-opened c fd = any-look (λ x. any-known _ _)
+
+keep-to-read : (c fd : ℕ) → Keeps (opened_to_read c fd)
+keep-to-read c fd =
+    leave-then (keep-opened c fd) (λ d.
+    leave-then (any-refuse _ _) (λ u. any-give))
+
+-- ---- events that no device shows
+
+keep-read : (d : Descriptor) (c line : ℕ) (request : Request) →
+    Keeps (admit_read d c line request)
+keep-read d c line request =
+    any-look (λ x.
+    leave-then (leave-event (λ w shown may_be.
+    event-shown w d.grant.ino (events.AdmitRead (entry x)) may_be
+    (λ i core devices shows allowed. reads-may-come i core (entry x) devices shows allowed) shown))
+    (λ u.
+    leave-then (leave-changes (λ w shown. same-shown w _ refl refl refl shown)) (λ v. any-give)))
+  where
+    entry : World → Entry
+    entry x = record {
+      ino = d.grant.ino;
+      place = length (core_in x d.grant.ino).log + 1;
+      caller = c;
+      line = line;
+      request = request;
+    }
+
+keep-post : (d : Descriptor) (c line : ℕ) (request : Request) → Keeps (post d c line request)
+keep-post d c line request =
+    leave-then (keep-read d c line request) (λ place. any-give)
+
+passed-shown : (ino place n : ℕ) (world : World) → IsShown world →
+    IsShown (with_file (with_passed place n (file_in world ino)) world)
+passed-shown ino place n world shown =
+    file-shown world ino (with_passed place n (file_in world ino))
+    (record { ino = refl; rec = refl; held = refl; blocks = refl }) (λ old. old) shown
+
+keep-dispatch : (ino place : ℕ) → Keeps (dispatch ino place)
+keep-dispatch ino place =
+    leave-then (leave-event (λ w shown may_be.
+    event-shown w ino (events.Dispatch place) may_be
+    (λ i core devices shows allowed.
+    quiet-events-show i core (events.Dispatch place) devices shows refl allowed) shown)) (λ u.
+    leave-changes (λ w shown. passed-shown ino place 0 w shown))
+
+keep-dispatch-by : (ino place : ℕ) (v : Verdict) → Keeps (dispatch_by ino place v)
+keep-dispatch-by ino place Absent = leave-end (λ w holds. holds)
+keep-dispatch-by ino place (Behind q) = leave-end (λ w holds. holds)
+keep-dispatch-by ino place Ready =
+    leave-then (keep-dispatch ino place) (λ u. any-look (λ x. any-give))
+
+keep-there : (ino : ℕ) → Keeps (there ino)
+keep-there ino = any-look (λ x. any-refuse _ _)
+
+keep-now : Keeps Now
+keep-now = record { by = here }
+  where
+    here : (old : World) (end : Result World Halt) (new : World) → IsShown old →
+        Now old end new → IfEnds (λ x. IsShown) IsShown end new
+    here old end new shown now = shown
+
+keep-dispatch-line : (ino place : ℕ) → Keeps (dispatch_line ino place)
+keep-dispatch-line ino place =
+    leave-then (leave-then (keep-there ino) (λ u. keep-now)) (λ x.
+    keep-dispatch-by ino place (verdict (core_in x ino) place))
+
+-- ---- power
+
+stopped-shown : (n : ℕ) (world : World) → IsShown world →
+    IsShown (record world { drive = stopped n world.drive })
+stopped-shown n world shown = unless-off (has_no_power world.drive)
+  where
+    unless-off : (off : Bool) → IsShown (record world {
+          drive = if off then world.drive
+              else record world.drive {
+                asked = Stopped n
+                    ∷ world.drive.asked;
+              };
+        })
+    unless-off true = shown
+    unless-off false = asked-shown world _ shown
+
+keep-plan : (device : Device) (writing : Bool) (k : ℕ) → Keeps (plan device writing k)
+keep-plan device writing k =
+    any-look (λ x.
+    leave-then (any-known _ _) (λ number.
+    leave-then (leave-changes (λ w shown. asked-shown w _ shown)) (λ u. any-give)))
+
+-- ---- a job's next step
+
+apply-shown-line : (line ino place : ℕ) →
+    Leaves (AtWork ino) (λ answer. IsShown) IsShown (does line (forms.Apply ino place))
+apply-shown-line line ino place =
+    leave-then {Q = λ answer. IsShown}
+    (leave-look (λ x.
+    leave-weaker {P = AtWork ino} (λ w holds. holds.1) (λ a w q. q) (λ w e. e)
+    (by-phase x.phase))) (λ answer. any-give)
+  where
+    applied : Leaves (AtWork ino) (λ answer. IsShown) IsShown (apply_line ino place)
+    applied =
+        leave-look (λ x.
+        leave-then {Q = λ u. AtWork ino}
+        (leave-weaker {P = AtWork ino} (λ w holds. holds.1) (λ u w q. q.1) (λ w e. e)
+        (leave-refuse _ _ (λ w work. work.shown))) (λ u.
+        leave-then {Q = λ v. IsShown} (apply-shown ino place) (λ v. any-look (λ y. any-give))))
+
+    by-phase : (phase : Phase) →
+        Leaves (AtWork ino) (λ answer. IsShown) IsShown (while_up phase (apply_line ino place))
+    by-phase Up = applied
+    by-phase Down = leave-end (λ w work. work.shown)
+    by-phase Failed = leave-end (λ w work. work.shown)
+
+-- ---- lines
+
+-- one step of a job
+abbrev is_apply : Form → Bool
+is_apply (forms.Apply ino place) = true
+is_apply other = false
+
+keep-line : (line : ℕ) (form : Form) → keeps_shown form ≡ true → is_mount form ≡ false →
+    is_apply form ≡ false → Keeps (does line form)
+keep-line line (forms.Caller c uid gid) keeps other more =
+    leave-then (leave-changes (λ w shown. same-shown w _ refl refl refl shown)) (λ u. any-give)
+keep-line line (forms.Lseek c fd seek) keeps other more =
+    keep-up (leave-then (keep-opened c fd) (λ d. keep-seek d c seek))
+keep-line line (forms.Post c fd offset n) keeps other more =
+    keep-up (leave-then (keep-to-read c fd) (λ d. keep-post d c line _))
+keep-line line (forms.Dispatch ino place) keeps other more = keep-up (keep-dispatch-line ino place)
+keep-line line (forms.Queue c fd) keeps other more =
+    keep-up (leave-then (keep-opened c fd) (λ d. keep-listed d))
+keep-line line (forms.Stop n) keeps other more =
+    keep-told (leave-then (leave-changes (λ w shown. stopped-shown n w shown)) (λ u. any-give))
+keep-line line forms.Mount keeps other more = absurd (cc)
+keep-line line (forms.Apply ino place) keeps other more = absurd (cc)
+keep-line line (forms.Fail device k) keeps other more = keep-told (keep-plan device true k)
+keep-line line (forms.FailRead device k) keeps other more = keep-told (keep-plan device false k)
+keep-line line form keeps other more = absurd (cc)
+
+shown-ends : (end : Result (Option Printed) Halt) (world : World) →
+    IfEnds (λ answer. IsShown) IsShown end world → IsShown world
+shown-ends (Ok answer) world holds = holds
+shown-ends (Err halt) world holds = holds
+
+-- of a line that makes a step of a job
+apply-line : (line : ℕ) (form : Form) (old : World) (end : Result (Option Printed) Halt)
+    (new : World) → is_apply form ≡ true → IsOfFile old form → AreReached old → IsShown old →
+    does line form old end new → IsShown new
+apply-line line (forms.Apply ino place) old end new is of reached shown way =
+    shown-ends end new ((apply-shown-line line ino place).by old end new
+    (record { shown = shown; reached = reached; goes_on = of }) way)
+apply-line line form old end new is of reached shown way = absurd (cc)
+
+pub lines-keep-shown : LinesKeepShown
+lines-keep-shown old new line out mounted keeps of reached shown (steps_so end way) =
+    by-kind (is_mount line.form) refl (is_apply line.form) refl
+  where
+    by-kind : (mounts : Bool) → is_mount line.form ≡ mounts → (applies : Bool) →
+        is_apply line.form ≡ applies → IsShown new
+    by-kind false is false more =
+        shown-ends end new
+        ((keep-line line.number line.form keeps is more).by old end new shown way)
+    by-kind false is true more =
+        apply-line line.number line.form old end new more of reached shown way
+    by-kind true is applies more =
+        subst IsShown (sym (mount-up line.number old end new mounted
+        (subst (λ f. does line.number f old end new) (only-mount line.form is) way)).1) shown

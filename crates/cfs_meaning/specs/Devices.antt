@@ -1,0 +1,144 @@
+-- When the devices of a store show a world: each image of them fits it.
+use Rattle.std.specs.Prelude.{◌≡◌, ◌≢◌, ℕ, ◌+◌, ◌<◌, Bool, true, false, Some, List, [], ◌∷◌, length, map, take}
+use Rattle.std.specs.List.{All, Contains}
+use Rattle.std.specs.Option.{option_map}
+use Rattle.cfs_file.specs.declared.sizes.TheConstants.{BLOCK_LEN}
+use Rattle.cfs_core.specs.declared.inode_core.Core.{Core}
+use Rattle.cfs_pmem.specs.Images.{IsImage, Seen, WordStep, words_kept, words_of}
+use Rattle.cfs_pmem.specs.Objects.{IsEachImage}
+use Rattle.cfs_block.specs.BlockImages.{BlockStep, content_kept, content_of}
+use Rattle.cfs_medium.specs.World as media
+use Rattle.cfs_medium.specs.World.{AllRemains}
+use Rattle.cfs_medium.specs.Shows.{Recovers, Shows}
+use Rattle.cfs_names.specs.Recovered.{IsTreeOr, recovered}
+use Rattle.cfs_script.specs.declared.form.Form.{Form}
+use Rattle.cfs_script.specs.declared.form.Form.TheVariants as forms
+use Rattle.cfs_script.specs.declared.line.Line.{Line}
+use Rattle.cfs_print.specs.declared.out_line.OutLine.{OutLine}
+use Rattle.cfs_meaning.specs.Drive.{Drive, block_at, region_at}
+use Rattle.cfs_meaning.specs.NameSteps.{tree_of}
+use Rattle.cfs_meaning.specs.Steps.{size_word}
+use Rattle.cfs_meaning.specs.World.{File, Up, World, block_of, devices_of, file_in, held_at}
+use Rattle.cfs_meaning.specs.Laws.{AreReached}
+use Rattle.cfs_meaning.specs.Play.{Step, crashed}
+
+-- P holds of each file
+abbrev pub OfEachFile : (File → Type 0) → List File → Type 0
+OfEachFile P [] = Unit {0}
+OfEachFile P (f ∷ files) = P f × OfEachFile P files
+
+-- ---- files
+
+-- what a core speaks of: the region of the file's size word, the slots of each request, and the
+-- block of each file block
+abbrev pub devices_of_file : Drive → File → media.World
+devices_of_file drive f = record {
+  size = region_at drive (size_word f.rec);
+  slots = λ gate. map (region_at drive) (devices_of (held_at f gate));
+  blocks = λ k. option_map (block_at drive) (block_of f k);
+}
+
+-- they show the core, unless it has ended
+abbrev pub IsFileShown : Drive → File → Type 0
+IsFileShown drive f = f.ended ≡ false → Shows f.ino f.core (devices_of_file drive f)
+
+-- One region or block is of two files, or twice of one, only where both are the same.
+pub record AreApart (f g : File) : Type 0 where
+  pub records : f.rec ≡ g.rec → f.ino ≡ g.ino
+  pub slots : (gate other device : ℕ) → Contains (devices_of (held_at f gate)) device →
+      Contains (devices_of (held_at g other)) device → (f.ino ≡ g.ino) × (gate ≡ other)
+  pub blocks : (j k b : ℕ) → block_of f j ≡ Some b → block_of g k ≡ Some b →
+      (f.ino ≡ g.ino) × (j ≡ k)
+
+abbrev pub AllApart : List File → Type 0
+AllApart files = OfEachFile (λ f. OfEachFile (AreApart f) files) files
+
+-- the file has a number, and its blocks are some of the drive's
+pub record IsPlaced (drive : Drive) (f : File) : Type 0 where
+  pub number : f.ino ≢ 0
+  pub blocks : (k b : ℕ) → block_of f k ≡ Some b → b < length drive.blocks
+
+-- a region has as many words as at its newest persist, and a block so many bytes as at its newest
+-- flush
+abbrev pub IsEvenRegion : Seen WordStep → Type 0
+IsEvenRegion seen = length (words_kept seen.history) ≡ length (words_of seen)
+
+abbrev pub IsEvenBlock : Seen BlockStep → Type 0
+IsEvenBlock seen =
+    (length (content_kept seen.history).bytes ≡ BLOCK_LEN)
+    × (length (content_of seen).bytes ≡ BLOCK_LEN)
+
+pub record IsEven (drive : Drive) : Type 0 where
+  pub regions : All IsEvenRegion drive.regions
+  pub blocks : All IsEvenBlock drive.blocks
+
+-- ---- the tree
+
+-- each image of the selector, the two tables and the journal recovers the tree, or the tree with
+-- the change in doubt
+abbrev pub IsTreeShown : World → Type 0
+IsTreeShown world =
+    (images : List (List ℕ)) → IsEachImage IsImage (take 67 world.drive.regions) images →
+    IsTreeOr (tree_of world.names.now) world.names.doubt (recovered images)
+
+-- ---- the world
+
+pub record IsShown (world : World) : Type 0 where
+  pub files : OfEachFile (IsFileShown world.drive) world.files
+  pub apart : AllApart world.files
+  pub placed : OfEachFile (IsPlaced world.drive) world.files
+  pub even : IsEven world.drive
+  pub tree : IsTreeShown world
+
+-- Whatever a crash leaves of a file's devices recovers the file after its log, and then the request
+-- in doubt where its gate was left open.
+abbrev pub IsRecovered : Drive → File → Type 0
+IsRecovered drive f =
+    f.ended ≡ false →
+    AllRemains (devices_of_file drive f) (Recovers f.ino (length f.core.log + 2) f.core)
+
+-- So it is of a world that is shown.
+abbrev pub ShownFilesRecover : Type 0
+ShownFilesRecover =
+    (world : World) → IsShown world → AreReached world →
+    OfEachFile (IsRecovered world.drive) world.files
+
+-- lines that are proved to keep that
+abbrev pub keeps_shown : Form → Bool
+keeps_shown (forms.Caller c uid gid) = true
+keeps_shown (forms.Lseek c fd seek) = true
+keeps_shown (forms.Post c fd offset n) = true
+keeps_shown (forms.Dispatch ino place) = true
+keeps_shown (forms.Apply ino place) = true
+keeps_shown (forms.Queue c fd) = true
+keeps_shown (forms.Stop n) = true
+keeps_shown forms.Mount = true
+keeps_shown (forms.Fail device k) = true
+keeps_shown (forms.FailRead device k) = true
+keeps_shown other = false
+
+-- a step is made of a job of a file whose core has not ended
+abbrev pub IsOfFile : World → Form → Type 0
+IsOfFile world (forms.Apply ino place) = (file_in world ino).ended ≡ false
+IsOfFile world other = Unit {0}
+
+abbrev pub LinesKeepShown : Type 0
+LinesKeepShown =
+    (old new : World) (line : Line) (out : List OutLine) → old.phase ≡ Up →
+    keeps_shown line.form ≡ true → IsOfFile old line.form → AreReached old → IsShown old →
+    Step line old out new → IsShown new
+
+-- ---- crashes
+
+-- What a crash may leave behind a crash, it may leave before it: a file that is recovered stays so.
+abbrev pub CrashesLeaveLess : Type 0
+CrashesLeaveLess =
+    (k : ℕ) (drive : Drive) (f : File) → IsEven drive → IsRecovered drive f →
+    IsRecovered (crashed k drive) f
+
+-- So behind a crash of a world that is shown each file recovers what it would have before.
+abbrev pub CrashesRecover : Type 0
+CrashesRecover =
+    (old new : World) (line : Line) (k : ℕ) (out : List OutLine) → line.form ≡ forms.Crash k →
+    AreReached old → IsShown old → Step line old out new →
+    OfEachFile (IsRecovered new.drive) new.files
