@@ -4,9 +4,9 @@ ghost use Rattle.cfs_dir.specs.Namespace.{node_at};
 
 use cfs_cred::Credential;
 use cfs_dir::{Kind, Moved, Path, Tree};
-use cfs_fresh::stored_tree;
+use cfs_fresh::{Left, stored_tree};
 use cfs_names::StoredTree;
-use cfs_pmem::{MemRegion, Meter, Pick};
+use cfs_pmem::{MemRegion, Meter};
 use std::alloc::Global;
 use std::process::Abort;
 use std::test::Fail;
@@ -79,85 +79,15 @@ fn begun_with(alloc: Global, meter: &mut Meter, count: u64) -> Result<StoredTree
     Ok(stored)
 }
 
-/// What a crash leaves of a store.
-#[derive(Drop)]
-struct Left {
-    selector: MemRegion,
-    tables: Vec<MemRegion>,
-    records: Vec<MemRegion>,
-}
-
-fn crash_all(regions: &mut [MemRegion], pick: &mut Pick) {
-    for region in regions.iter_mut() {
-        region.crash(pick);
-    }
-}
-
-fn after_crash(stored: StoredTree<MemRegion>, k: u64) -> Left {
-    let (_tree, journal, checkpoint) = stored.into_parts();
-    let (mut selector, mut tables) = checkpoint.into_parts();
-    let mut records = journal.into_parts();
-    let mut pick = Pick::new(k);
-    selector.crash(&mut pick);
-    crash_all(tables.as_mut_slice(), &mut pick);
-    crash_all(records.as_mut_slice(), &mut pick);
-    Left {
-        selector,
-        tables,
-        records,
-    }
-}
-
-/// A word of a region; 0 where there is none.
-fn word_at(region: Option<&MemRegion>, at: usize) -> u64 {
-    match region {
-        Some(region) => region.words().get(at).copied().unwrap_or(0),
-        None => 0,
-    }
-}
-
-/// What a record of the journal makes of one of the twelve words of the node at a record of the
-/// tree: behind its gate stand the operation, where 2 removes, the record of the tree, the twelve
-/// words, and the record of a node that is replaced, plus 1.
-fn changed(word: u64, entry: Option<&MemRegion>, rec: u64, at: usize) -> u64 {
-    if word_at(entry, 15) == rec.saturating_add(1) {
-        return 0;
-    }
-    if word_at(entry, 2) != rec {
-        return word;
-    }
-    if word_at(entry, 1) == 2 {
-        return 0;
-    }
-    word_at(entry, at.saturating_add(3))
-}
-
-/// One of the twelve words of the node that is recovered at a record of the tree; 0 without a node.
-fn recovered(left: &Left, rec: u32, at: usize) -> u64 {
-    let selected = word_at(Some(&left.selector), 0);
-    let table = left.tables.get((selected % 2) as usize);
-    let first = (rec as usize).saturating_mul(12).saturating_add(1);
-    let mut word = word_at(table, first.saturating_add(at));
-    for step in 0..64 {
-        let number = (selected / 2).saturating_add(step);
-        let entry = left.records.get((number % 64) as usize);
-        if word_at(entry, 0) != number.saturating_add(1) {
-            return word;
-        }
-        word = changed(word, entry, u64::from(rec), at);
-    }
-    word
-}
-
 /// The inode number and the first eight bytes of the name that are recovered at a record.
 fn found_at(left: &Left, rec: u32) -> [u64; 2] {
-    [recovered(left, rec, 0), recovered(left, rec, 7)]
+    [left.recovered(rec, 0), left.recovered(rec, 7)]
 }
 
 /// How many of the directories that `begun_with` makes are recovered, in a row.
 fn count_left(left: &Left) -> u32 {
     for rec in 1..256 {
-        if recovered(left, rec, 0) != u64::from(rec) + 1 {
+        if left.recovered(rec, 0) != u64::from(rec) + 1 {
             return rec - 1;
         }
     }
@@ -195,13 +125,13 @@ fn left_by_call(alloc: Global, call: Call, n: u64, k: u64) -> Result<(bool, [u64
     let mut stored = begun_with(alloc, &mut meter, 2)?;
     meter.stop(n.max(1));
     let done = run_call(alloc, &mut stored, &mut meter, call)?;
-    let left = after_crash(stored, k);
+    let left = Left::of(stored, k);
     Ok((
         done,
         [
-            recovered(&left, 1, 7),
-            recovered(&left, 2, 0),
-            recovered(&left, 3, 0),
+            left.recovered(1, 7),
+            left.recovered(2, 0),
+            left.recovered(3, 0),
         ],
     ))
 }
@@ -237,16 +167,15 @@ fn a_stop_leaves_the_change_made_or_not(rt: HostRuntime) -> Result<(), Fail> {
 
 /// The selector's word, and the gates of the first seven records of the journal.
 fn selector_and_gates(left: &Left) -> [u64; 8] {
-    let gate = |place: usize| word_at(left.records.get(place), 0);
     [
-        word_at(Some(&left.selector), 0),
-        gate(0),
-        gate(1),
-        gate(2),
-        gate(3),
-        gate(4),
-        gate(5),
-        gate(6),
+        left.selector(),
+        left.gate(0),
+        left.gate(1),
+        left.gate(2),
+        left.gate(3),
+        left.gate(4),
+        left.gate(5),
+        left.gate(6),
     ]
 }
 
@@ -256,7 +185,7 @@ fn selector_and_gates(left: &Left) -> [u64; 8] {
 fn seventy_changes_take_a_checkpoint(rt: HostRuntime) -> Result<(), Fail> {
     let mut meter = Meter::calm(rt.alloc());
     let stored = begun_with(rt.alloc(), &mut meter, 70)?;
-    let left = after_crash(stored, 0);
+    let left = Left::of(stored, 0);
     assert_eq!(rt; selector_and_gates(&left), [129, 65, 66, 67, 68, 69, 70, 7]);
     assert_eq!(rt; count_left(&left), 70);
     Ok(())
@@ -269,8 +198,8 @@ fn left_by_last(alloc: Global, n: u64, k: u64) -> Result<(bool, u64, u32), Fail>
     let mut stored = begun_with(alloc, &mut meter, 64)?;
     meter.stop(n.max(1));
     let done = make(alloc, &mut stored, &mut meter, "/n64")?;
-    let left = after_crash(stored, k);
-    Ok((done, word_at(Some(&left.selector), 0), count_left(&left)))
+    let left = Left::of(stored, k);
+    Ok((done, left.selector(), count_left(&left)))
 }
 
 // The checkpoint has 3,073 steps of the table's words, one of its persist and two of the selector,
@@ -316,7 +245,7 @@ fn left_by_next(alloc: Global, count: u32, n: u64) -> Result<([bool; 3], [u64; 2
     let rec = count.saturating_add(1);
     let same = is_as_before(stored.tree(), rec, u64::from(rec) + 1);
     let kept = make(alloc, &mut stored, &mut meter, "/x")?;
-    let left = after_crash(stored, 0);
+    let left = Left::of(stored, 0);
     Ok(([lost, same, kept], found_at(&left, rec)))
 }
 
