@@ -11,3 +11,6 @@ pub mod Quiet
 pub mod Composing
 pub mod Dispatches
 pub mod States
+pub mod JobTells
+pub mod Givings
+pub mod EndTells

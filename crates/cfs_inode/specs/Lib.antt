@@ -5,3 +5,5 @@ pub mod Ends
 pub mod Opening
 pub mod Reads
 pub mod Jobs
+pub mod Dispatching
+pub mod Backs

@@ -2,6 +2,8 @@
 #![tactic(auto)]
 
 mod answers;
+mod dispatch;
+mod dispatch_answer;
 mod open;
 mod reading;
 mod reads;
@@ -10,4 +12,5 @@ mod skip;
 mod state;
 
 pub use answers::CloseAnswer;
+pub use dispatch_answer::DispatchAnswer;
 pub use state::{InodeState, State};
