@@ -14,3 +14,5 @@ pub mod States
 pub mod JobTells
 pub mod Givings
 pub mod EndTells
+pub mod Comings
+pub mod PutBacks

@@ -5,6 +5,7 @@ mod answers;
 mod dispatch;
 mod dispatch_answer;
 mod open;
+mod put_back;
 mod reading;
 mod reads;
 mod settle;
