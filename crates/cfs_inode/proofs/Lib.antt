@@ -16,3 +16,5 @@ pub mod Givings
 pub mod EndTells
 pub mod Comings
 pub mod PutBacks
+pub mod Sizings
+pub mod Finishings

@@ -7,3 +7,4 @@ pub mod Reads
 pub mod Jobs
 pub mod Dispatching
 pub mod Backs
+pub mod Finishing

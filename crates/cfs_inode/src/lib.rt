@@ -4,14 +4,19 @@
 mod answers;
 mod dispatch;
 mod dispatch_answer;
+mod finish;
+mod finish_answer;
 mod open;
 mod put_back;
 mod reading;
 mod reads;
 mod settle;
+mod size;
+mod size_answer;
 mod skip;
 mod state;
 
 pub use answers::CloseAnswer;
 pub use dispatch_answer::DispatchAnswer;
+pub use finish_answer::FinishAnswer;
 pub use state::{InodeState, State};
