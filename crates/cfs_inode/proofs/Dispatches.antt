@@ -102,7 +102,7 @@ out-slots first second e entry held both has =
     let clash : None ≡ Some held = sym none ∙ has in
     cc
 
-waiting-slots : (now : Doing Held) (held : Held) → waiting_in now ≡ Some held →
+pub waiting-slots : (now : Doing Held) (held : Held) → waiting_in now ≡ Some held →
     slots_in now ≡ Some held
 waiting-slots (doings.Waiting x) held h = h
 waiting-slots doings.Marking held h = cc
@@ -120,7 +120,7 @@ not-there ino place (job ∷ jobs) core world apart all =
 out-waits : (s : State) (job : JobView) → s ≡ states.Out (core_job job) → is_waiting s ≡ true → ⊥
 out-waits s job out waits = (let none : is_waiting s ≡ false = rw out refl in cc)
 
-waits-state : (now : Doing Held) (held : Held) (s : State) → waiting_in now ≡ Some held →
+pub waits-state : (now : Doing Held) (held : Held) (s : State) → waiting_in now ≡ Some held →
     IsDoing now s → s ≡ states.Waiting
 waits-state (doings.Waiting x) held s h is = is
 waits-state doings.Marking held s h is = cc

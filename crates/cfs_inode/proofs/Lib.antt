@@ -18,3 +18,4 @@ pub mod Comings
 pub mod PutBacks
 pub mod Sizings
 pub mod Finishings
+pub mod Knows

@@ -8,3 +8,4 @@ pub mod Jobs
 pub mod Dispatching
 pub mod Backs
 pub mod Finishing
+pub mod Knows
