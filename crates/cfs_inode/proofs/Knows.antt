@@ -39,13 +39,17 @@ use Rattle.cfs_tracker.specs.declared.reading.Reading.{Reading}
 use Rattle.cfs_tracker.specs.Dispatch.{waiting_in}
 use Rattle.cfs_tracker.specs.Finish.{blocks_in, blocks_out, number_of}
 use Rattle.cfs_tracker.specs.Follows.{IsDoing, StandsAt, block_of, gate_for, is_dead}
-use Rattle.cfs_tracker.specs.View.{entry_at, read_at}
+use Rattle.cfs_tracker.specs.declared.cell.Cell.{Cell}
+use Rattle.cfs_tracker.specs.View.{doing, entry_at, read_at, with_entry}
+use Rattle.cfs_tracker.proofs.Entries.{here-with}
+use Rattle.cfs_block.specs.BlockImages.{BlockStep}
 use Rattle.cfs_tracker.proofs.Behind.{doubt-behind}
 use Rattle.cfs_tracker.proofs.Putting.{track-of}
 use Rattle.cfs_tracker.proofs.Tracks.{in-log}
 use Rattle.cfs_inode.specs.Backs.{HasOut, tile_back}
 use Rattle.cfs_inode.specs.Dispatching.{IsOpenedFor, IsReadyAt}
-use Rattle.cfs_inode.specs.Knows.{JobsAreOut, StandingAreReady}
+use Rattle.cfs_inode.specs.Jobs.{AreTile}
+use Rattle.cfs_inode.specs.Knows.{JobsAreOut, StandingAreReady, TakenAreOut}
 use Rattle.cfs_inode.specs.Stands.{JobStands, Stands, Together}
 use Rattle.cfs_inode.specs.View.{Held, Seens, StateView}
 use Rattle.cfs_inode.proofs.Dispatches.{waiting-slots, waits-state}
@@ -224,3 +228,28 @@ standing-ready state core world place stands still = record {
         (held-open state core world place entry held stands there waits open_);
   };
 }
+
+-- ---- a job that was given out
+
+tile-number : (cells : List (Cell (Seen BlockStep))) (block : Option ℕ) (tile : Option TileView) →
+    AreTile cells block tile → number_of (tile_back tile) ≡ block
+tile-number cells None None are = refl
+tile-number cells None (Some tile) are = absurd are
+tile-number cells (Some block) None are = absurd are
+tile-number cells (Some block) (Some tile) are = ap (λ (n : ℕ). Some n) are.at
+
+pub taken-out : TakenAreOut
+taken-out place job old new is =
+    let es = old.tracker.entries in
+    let change : Pending Held → Pending Held = doing (doings.Out is.first is.second) in
+    let there : entry_at (with_entry place change es) place ≡ Some (change is.entry) =
+    here-with es place change (λ e. refl)
+    ∙ ap (λ (o : Option (Pending Held)). option_map change o) is.given.there in
+    let cells = old.tracker.cells in
+    subst (λ (s : StateView). HasOut s job) (sym is.view)
+    (ap (λ p. blocks_out (entry_at (with_entry place change es) p)) is.given.place_is
+    ∙ (ap (λ (o : Option (Pending Held)). blocks_out o) there
+    ∙ rw (
+      tile-number cells is.first job.first is.given.first_is,
+      tile-number cells is.second job.second is.given.second_is,
+    ) refl))

@@ -6,7 +6,7 @@ use Rattle.cfs_job.specs.Views.{JobView}
 use Rattle.cfs_medium.specs.World.{World}
 use Rattle.cfs_tracker.specs.Dispatch.{is_still}
 use Rattle.cfs_inode.specs.Backs.{HasOut}
-use Rattle.cfs_inode.specs.Dispatching.{IsReadyAt}
+use Rattle.cfs_inode.specs.Dispatching.{IsReadyAt, IsTaken}
 use Rattle.cfs_inode.specs.Stands.{Stands, Together}
 use Rattle.cfs_inode.specs.View.{StateView}
 
@@ -21,3 +21,9 @@ abbrev pub JobsAreOut : Type 0
 JobsAreOut =
     (state : StateView) (job : JobView) (jobs : List JobView) (core : Core) (world : World) →
     Together state (job ∷ jobs) core world → HasOut state job
+
+-- and so may one that was given out
+abbrev pub TakenAreOut : Type 0
+TakenAreOut =
+    (place : ℕ) (job : JobView) (old new : StateView) → IsTaken place job old new →
+    HasOut new job

@@ -20,5 +20,5 @@ mod state;
 pub use answers::CloseAnswer;
 pub use dispatch_answer::DispatchAnswer;
 pub use finish_answer::FinishAnswer;
-pub use laws::{jobs_are_out, standing_are_ready};
+pub use laws::{jobs_are_out, standing_are_ready, taken_are_out};
 pub use state::{InodeState, State};
