@@ -116,7 +116,7 @@ out-slots first second e entry held both has =
     let clash : None ≡ Some held = sym none ∙ has in
     cc
 
-waiting-slots : (now : Doing Held) (held : Held) → waiting_in now ≡ Some held →
+pub waiting-slots : (now : Doing Held) (held : Held) → waiting_in now ≡ Some held →
     slots_in now ≡ Some held
 waiting-slots (doings.Waiting x) held h = h
 waiting-slots doings.Marking held h = cc

@@ -21,3 +21,11 @@ pub mod Coverings
 pub mod CoverTells
 pub mod News
 pub mod Works
+pub mod JobTells
+pub mod Givings
+pub mod EndTells
+pub mod Comings
+pub mod PutBacks
+pub mod Sizings
+pub mod Finishings
+pub mod Knows

@@ -148,7 +148,7 @@ not-out : (core : Core) (place : ℕ) → IsNoop core place →
     is_out (track core.tracks place).state ≡ false
 not-out core place noop = rw noop.state refl
 
-doubt-apart : (mine : Option (InDoubt Seens)) (theirs : Option CoreDoubt) (place : ℕ)
+pub doubt-apart : (mine : Option (InDoubt Seens)) (theirs : Option CoreDoubt) (place : ℕ)
     (doubt : InDoubt Seens) → mine ≡ Some doubt → DoubtStands mine theirs →
     ((d : CoreDoubt) → theirs ≡ Some d → d.entry.place ≡ place → ⊥) → doubt.place ≡ place → ⊥
 doubt-apart None theirs place doubt is stands beside same = cc

@@ -15,6 +15,7 @@ use Rattle.cfs_inode.specs.View.{Held, StateView}
 pub record IsTile (cells : List (Cell (Seen BlockStep))) (block : ℕ) (tile : TileView) : Type 0 where
   pub at : tile.at ≡ block
   pub home : cell_at cells block ≡ kinds.Home tile.seen
+  pub taken : tile.taken ≡ tile.seen
   pub written : tile.written ≡ false
   pub flushed : tile.flushed ≡ false
 

@@ -9,3 +9,7 @@ pub mod Marking
 pub mod Trims
 pub mod Covering
 pub mod New
+pub mod Dispatching
+pub mod Backs
+pub mod Finishing
+pub mod Knows

@@ -1,0 +1,224 @@
+-- What becomes of a change is told of a tracker as it is.
+use Rattle.std.proofs.Common.{◌≡◌, ◌∙◌, ◌&&◌, ap, cond, get_or, inl, inr, List, [], ◌∷◌, length, map, nat_lt, Option, None, Some, refl, set, suc, sym, true, false, zero, ℕ, Bool}
+use Rattle.std.specs.List.{find, list_all, range_with_len}
+use Rattle.std.proofs.Math.ListN.{get_or-map}
+use Rattle.std.proofs.lemmas.Bool.{cases_Bool}
+use Rattle.std.proofs.lemmas.List.{length-map}
+use Rattle.cfs_file.specs.declared.span.Span.{Span}
+use Rattle.cfs_tracker.specs.declared.cell.Cell.{Cell}
+use Rattle.cfs_tracker.specs.declared.cell.Cell.TheVariants as kinds
+use Rattle.cfs_tracker.specs.declared.doing.Doing.{Doing}
+use Rattle.cfs_tracker.specs.declared.doing.Doing.TheVariants as doings
+use Rattle.cfs_tracker.specs.declared.pending.Pending.{Pending}
+use Rattle.cfs_tracker.specs.declared.step.Step.{Step}
+use Rattle.cfs_tracker.specs.declared.step.Step.TheVariants.{NotWaiting}
+use Rattle.cfs_tracker.specs.Admit.{is_mapped}
+use Rattle.cfs_tracker.specs.Cells.{cell_at}
+use Rattle.cfs_tracker.specs.Dispatch.{ahead, dispatched, first_cell, holder, is_ahead, is_read_ahead, is_still, is_waiting_doing, is_wanted_cell, lend, lent_to, lesser, next_cell, read_place, second_cell, step_at, step_behind, step_of, step_of_blocks, step_with, waiting_in, waiting_slots}
+use Rattle.cfs_tracker.specs.Reads.{is_live_doing, place_of}
+use Rattle.cfs_tracker.specs.View.{TrackerView, doing, entry_at, with_entry}
+use Rattle.cfs_tracker.proofs.Dispatching.{find-alike}
+use Rattle.cfs_inode.specs.View.{told, told_cell, told_doing, told_entry, told_option}
+use Rattle.cfs_inode.proofs.Tells.{at-told, with-told}
+
+-- ---- the blocks
+
+mapped-told : {B C : Type 0} (tell : B → C) (cell : Cell B) →
+    is_mapped (told_cell tell cell) ≡ is_mapped cell
+mapped-told tell kinds.Hole = refl
+mapped-told tell (kinds.Home block) = refl
+mapped-told tell (kinds.Unsure block) = refl
+mapped-told tell (kinds.Lent place) = refl
+mapped-told tell (kinds.Moving is_sure) = refl
+
+lent-told : {B C : Type 0} (tell : B → C) (cell : Cell B) →
+    lent_to (told_cell tell cell) ≡ lent_to cell
+lent-told tell kinds.Hole = refl
+lent-told tell (kinds.Home block) = refl
+lent-told tell (kinds.Unsure block) = refl
+lent-told tell (kinds.Lent place) = refl
+lent-told tell (kinds.Moving is_sure) = refl
+
+still-told : {B C : Type 0} (tell : B → C) (cell : Cell B) →
+    is_still (told_cell tell cell) ≡ is_still cell
+still-told tell kinds.Hole = refl
+still-told tell (kinds.Home block) = refl
+still-told tell (kinds.Unsure block) = refl
+still-told tell (kinds.Lent place) = refl
+still-told tell (kinds.Moving is_sure) = refl
+
+pub all-still-told : {B C : Type 0} (tell : B → C) (cells : List (Cell B)) →
+    list_all (λ cell. is_still cell) (map (told_cell tell) cells)
+    ≡ list_all (λ cell. is_still cell) cells
+all-still-told tell [] = refl
+all-still-told tell (cell ∷ cells) =
+    rw (still-told tell cell) (ap (λ b. is_still cell && b) (all-still-told tell cells))
+
+pub cell-told : {B C : Type 0} (tell : B → C) (cells : List (Cell B)) (block : ℕ) →
+    cell_at (map (told_cell tell) cells) block ≡ told_cell tell (cell_at cells block)
+cell-told tell cells block = get_or-map (told_cell tell) cells block kinds.Hole
+
+wanted-told : {B C : Type 0} (tell : B → C) (cells : List (Cell B)) (span : Span)
+    (done : Option ℕ) (block : ℕ) →
+    is_wanted_cell (map (told_cell tell) cells) span done block
+    ≡ is_wanted_cell cells span done block
+wanted-told tell cells span done block =
+    let mapped : is_mapped (cell_at (map (told_cell tell) cells) block)
+    ≡ is_mapped (cell_at cells block) =
+    ap is_mapped (cell-told tell cells block) ∙ mapped-told tell (cell_at cells block) in
+    rw mapped refl
+
+pub next-told : {B C : Type 0} (tell : B → C) (cells : List (Cell B)) (span : Span)
+    (done : Option ℕ) →
+    next_cell (map (told_cell tell) cells) span done ≡ next_cell cells span done
+next-told tell cells span done =
+    find-alike (is_wanted_cell (map (told_cell tell) cells) span done)
+    (is_wanted_cell cells span done) (range_with_len 0 (length (map (told_cell tell) cells)))
+    (λ block. wanted-told tell cells span done block)
+    ∙ ap (λ (n : ℕ). find (is_wanted_cell cells span done) (range_with_len 0 n))
+    (length-map cells (told_cell tell))
+
+first-told : {S T B C : Type 0} (live : S → T) (tell : B → C) (cells : List (Cell B))
+    (entry : Pending S) →
+    first_cell (map (told_cell tell) cells) (told_entry live entry) ≡ first_cell cells entry
+first-told live tell cells entry =
+    ap (λ (o : Option ℕ). cond entry.applied None o)
+    (next-told tell cells entry.span entry.done)
+
+second-told : {B C : Type 0} (tell : B → C) (cells : List (Cell B)) (span : Span)
+    (first : Option ℕ) →
+    second_cell (map (told_cell tell) cells) span first ≡ second_cell cells span first
+second-told tell cells span None = refl
+second-told tell cells span (Some block) = next-told tell cells span (Some block)
+
+holder-told : {B C : Type 0} (tell : B → C) (cells : List (Cell B)) (held : Option ℕ) →
+    holder (map (told_cell tell) cells) held ≡ holder cells held
+holder-told tell cells None = refl
+holder-told tell cells (Some block) =
+    ap lent_to (cell-told tell cells block) ∙ lent-told tell (cell_at cells block)
+
+blocks-told : {B C : Type 0} (tell : B → C) (cells : List (Cell B)) (first second : Option ℕ) →
+    step_of_blocks (map (told_cell tell) cells) first second ≡ step_of_blocks cells first second
+blocks-told tell cells first second =
+    rw (holder-told tell cells first, holder-told tell cells second) refl
+
+-- ---- what it waits for
+
+live-told : {S T : Type 0} (live : S → T) (now : Doing S) →
+    is_live_doing (told_doing live now) ≡ is_live_doing now
+live-told live (doings.Waiting slots) = refl
+live-told live doings.Marking = refl
+live-told live (doings.Out first second) = refl
+live-told live (doings.Covered slots) = refl
+live-told live doings.Closing = refl
+
+waiting-told : {S T : Type 0} (live : S → T) (now : Doing S) →
+    is_waiting_doing (told_doing live now) ≡ is_waiting_doing now
+waiting-told live (doings.Waiting slots) = refl
+waiting-told live doings.Marking = refl
+waiting-told live (doings.Out first second) = refl
+waiting-told live (doings.Covered slots) = refl
+waiting-told live doings.Closing = refl
+
+found-told : {S T : Type 0} (live : S → T) (place : ℕ) (span : Span) (es : List (Pending S)) →
+    place_of (find (is_ahead place span) (map (told_entry live) es))
+    ≡ place_of (find (is_ahead place span) es)
+found-told live place span [] = refl
+found-told live place span (e ∷ es) =
+    let alive = live-told live e.doing in
+    elim (cases_Bool (is_ahead place span e)) [
+      | inl own ↦
+          let it : is_ahead place span (told_entry live e) ≡ true = rw alive own in
+          rw (it, own) refl
+      | inr beside ↦
+          let it : is_ahead place span (told_entry live e) ≡ false = rw alive beside in
+          rw (it, beside) (found-told live place span es)
+    ]
+
+ahead-told : {S D B T E C : Type 0} (live : S → T) (doubt : D → E) (block : B → C)
+    (view : TrackerView S D B) (entry : Pending S) →
+    ahead (told live doubt block view) (told_entry live entry) ≡ ahead view entry
+ahead-told live doubt block view entry =
+    ap (λ (o : Option ℕ). lesser o
+    (read_place (find (is_read_ahead entry.place entry.span) view.reads)))
+    (found-told live entry.place entry.span view.entries)
+
+behind-told : {S D B T E C : Type 0} (live : S → T) (doubt : D → E) (block : B → C)
+    (view : TrackerView S D B) (entry : Pending S) (before : Option ℕ) →
+    step_behind (told live doubt block view) (told_entry live entry) before
+    ≡ step_behind view entry before
+behind-told live doubt block view entry (Some place) = refl
+behind-told live doubt block view entry None =
+    rw (
+      first-told live block view.cells entry,
+      second-told block view.cells entry.span (first_cell view.cells entry),
+    ) (blocks-told block view.cells (first_cell view.cells entry)
+    (second_cell view.cells entry.span (first_cell view.cells entry)))
+
+of-told : {S D B T E C : Type 0} (live : S → T) (doubt : D → E) (block : B → C)
+    (view : TrackerView S D B) (entry : Option (Pending S)) →
+    step_of (told live doubt block view) (told_option (told_entry live) entry)
+    ≡ step_of view entry
+of-told live doubt block view None = refl
+of-told live doubt block view (Some entry) =
+    rw (waiting-told live entry.doing, ahead-told live doubt block view entry)
+    (ap (λ (s : Step). cond (is_waiting_doing entry.doing) s NotWaiting)
+    (behind-told live doubt block view entry (ahead view entry)))
+
+pub step-told : {S D B T E C : Type 0} (live : S → T) (doubt : D → E) (block : B → C)
+    (view : TrackerView S D B) (place : ℕ) →
+    step_at (told live doubt block view) place ≡ step_at view place
+step-told live doubt block view place =
+    ap (λ o. step_of (told live doubt block view) o) (at-told live view.entries place)
+    ∙ of-told live doubt block view (entry_at view.entries place)
+
+-- ---- it is dispatched
+
+waits-told : {S T : Type 0} (live : S → T) (now : Doing S) →
+    waiting_in (told_doing live now) ≡ told_option live (waiting_in now)
+waits-told live (doings.Waiting slots) = refl
+waits-told live doings.Marking = refl
+waits-told live (doings.Out first second) = refl
+waits-told live (doings.Covered slots) = refl
+waits-told live doings.Closing = refl
+
+slots-of-told : {S T : Type 0} (live : S → T) (entry : Option (Pending S)) →
+    waiting_slots (told_option (told_entry live) entry) ≡ told_option live (waiting_slots entry)
+slots-of-told live None = refl
+slots-of-told live (Some entry) = waits-told live entry.doing
+
+pub slots-told : {S T : Type 0} (live : S → T) (es : List (Pending S)) (place : ℕ) →
+    waiting_slots (entry_at (map (told_entry live) es) place)
+    ≡ told_option live (waiting_slots (entry_at es place))
+slots-told live es place =
+    ap waiting_slots (at-told live es place) ∙ slots-of-told live (entry_at es place)
+
+pub set-told : {B C : Type 0} (tell : B → C) (cells : List (Cell B)) (block : ℕ) (cell : Cell B) →
+    map (told_cell tell) (set cells block cell)
+    ≡ set (map (told_cell tell) cells) block (told_cell tell cell)
+set-told tell [] block cell = refl
+set-told tell (x ∷ cells) zero cell = refl
+set-told tell (x ∷ cells) (suc block) cell =
+    ap (λ xs. told_cell tell x ∷ xs) (set-told tell cells block cell)
+
+lend-told : {B C : Type 0} (tell : B → C) (cells : List (Cell B)) (place : ℕ)
+    (held : Option ℕ) →
+    map (told_cell tell) (lend place held cells) ≡ lend place held (map (told_cell tell) cells)
+lend-told tell cells place None = refl
+lend-told tell cells place (Some block) = set-told tell cells block (kinds.Lent place)
+
+pub told-dispatched : {S D B T E C : Type 0} (live : S → T) (doubt : D → E) (block : B → C)
+    (place : ℕ) (first second : Option ℕ) (view : TrackerView S D B) →
+    told live doubt block (dispatched place first second view)
+    ≡ dispatched place first second (told live doubt block view)
+told-dispatched live doubt block place first second view =
+    ap (λ es. record (told live doubt block view) {
+      entries = es;
+      cells = map (told_cell block) (lend place second (lend place first view.cells));
+    }) (with-told live view.entries place (doings.Out first second))
+    ∙ ap (λ cells. record (told live doubt block view) {
+      entries = with_entry place (doing (doings.Out first second))
+          (map (told_entry live) view.entries);
+      cells = cells;
+    }) (lend-told block (lend place first view.cells) place second
+    ∙ ap (λ cells. lend place second cells) (lend-told block view.cells place first))

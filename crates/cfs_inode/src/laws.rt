@@ -1,0 +1,20 @@
+//! What holds of states and their jobs beside their calls, as contracts of functions that do
+//! nothing.
+
+ghost use Rattle.cfs_inode.specs.Knows.{JobsAreOut, StandingAreReady, TakenAreOut};
+
+/// What `dispatch` asks for holds of each state that stands, where no block is in the caller's
+/// hands.
+pub fn standing_are_ready()
+    ensures { StandingAreReady }
+{}
+
+/// What `finish` and `put_back` ask for holds of each job that a state has out.
+pub fn jobs_are_out()
+    ensures { JobsAreOut }
+{}
+
+/// And so it holds of a job that `dispatch` gave out.
+pub fn taken_are_out()
+    ensures { TakenAreOut }
+{}
