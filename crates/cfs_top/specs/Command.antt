@@ -1,5 +1,5 @@
 -- The commands that words are.
-use Rattle.std.specs.Prelude.{◌≡◌, ℕ, ◌==◌, ◌≤◌, ◌&&◌, ◌||◌, not, nat_le, Bool, List, [], ◌∷◌, length, get_or, codes, IsTrue}
+use Rattle.std.specs.Prelude.{◌≡◌, ◌≢◌, ℕ, ◌==◌, ◌≤◌, ◌&&◌, ◌||◌, not, nat_le, Bool, List, [], ◌∷◌, length, get_or, codes, IsTrue}
 use Rattle.std.specs.Char.{is_ascii_alphanumeric}
 use Rattle.std.specs.List.{list_all}
 use Rattle.std.specs.Fmt.{decimal}
@@ -38,3 +38,14 @@ pub record IsMkfs (words : List (List ℕ)) (image : List ℕ) (blocks queues : 
   pub most_blocks : blocks ≤ MOST_BLOCKS
   pub fewest_queues : FEWEST_QUEUES ≤ queues
   pub most_queues : queues ≤ MOST_QUEUES
+
+abbrev pub is_upgrade : List ℕ → Bool
+is_upgrade word = bytes_eq word (codes "upgrade")
+
+-- the words are the program's name, `upgrade`, an image's name, and another one for the new image
+pub record IsUpgrade (words : List (List ℕ)) (image new : List ℕ) : Type 0 where
+  pub program : List ℕ
+  pub are : words ≡ program ∷ codes "upgrade" ∷ image ∷ new ∷ []
+  pub name : IsTrue (is_image_name image)
+  pub new_name : IsTrue (is_image_name new)
+  pub another : new ≢ image

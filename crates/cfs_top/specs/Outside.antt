@@ -1,30 +1,41 @@
 -- How a call of the program ends: after which words and input, with which status and output.
-use Rattle.std.specs.Prelude.{◌≡◌, ◌⊎◌, ◌≤◌, ℕ, List, [], length, IsTrue, IsFalse}
+use Rattle.std.specs.Prelude.{◌≡◌, ◌⊎◌, ◌≤◌, ℕ, List, [], length, IsTrue, IsFalse, Some}
 use Rattle.std.specs.declared.option.Option.{Option}
 use Rattle.std.specs.Io.KnownBytes.{Appends, Consumes, IsAtEnd}
 use Rattle.cfs_file.specs.declared.entry.Entry.{Entry}
 use Rattle.cfs_io.specs.declared.script.TheConstants.{LONGEST_SCRIPT}
+use Rattle.cfs_pmem.specs.Faults.{Rose}
+use Rattle.cfs_image.specs.declared.version.Version.TheVariants.{First}
+use Rattle.cfs_image.specs.Checks.{Damage, checks_of, damage_of}
 use Rattle.cfs_image.specs.Fresh.{new_image_of}
-use Rattle.cfs_io.specs.Files.{Files, OthersKept, Saved}
+use Rattle.cfs_move.specs.Refusals.{IsOldSound}
+use Rattle.cfs_move.specs.Upgraded.{upgraded}
+use Rattle.cfs_io.specs.Files.{Files, Finds, Misses, OthersKept, Saved}
 use Rattle.cfs_io.specs.Streams.{AppendsFront, MoreCame, SomeCame}
 use Rattle.cfs_script.specs.declared.command.Command.TheVariants as commands
 use Rattle.cfs_script.specs.declared.line.Line.{Line}
 use Rattle.cfs_script.specs.Script.{IsScript, IsNoScript}
 use Rattle.cfs_top.specs.declared.out_line.OutLine.{OutLine}
 use Rattle.cfs_top.specs.declared.status.Status.{Status}
-use Rattle.cfs_top.specs.declared.status.Status.TheVariants.{Done, Usage, Script, Input, Output, Shelf, NoMemory}
-use Rattle.cfs_top.specs.Command.{IsMkfs, IsPlay}
+use Rattle.cfs_top.specs.declared.status.Status.TheVariants.{Done, Usage, Script, Image, Input, Output, Shelf, NoMemory, Absent}
+use Rattle.cfs_top.specs.Command.{IsMkfs, IsPlay, IsUpgrade}
 use Rattle.cfs_top.specs.Order.{KeepsOrder}
 use Rattle.cfs_top.specs.Play.{Run}
 use Rattle.cfs_top.specs.Stage.{are_served}
-use Rattle.cfs_top.specs.Text.{refused_text, texts, usage_text}
+use Rattle.cfs_top.specs.Text.{absent_text, damaged_text, refused_text, texts, usage_text}
+
+-- what is told of a shelf at one moment: its files, and how many loads and saves have met a fault
+pub record Shelved : Type 0 where
+  pub files : Option Files
+  pub loads : ℕ
+  pub saves : ℕ
 
 -- what is told of the outside at one moment: the bytes that the source has left, the bytes that the
--- sink has, the files of the shelf
+-- sink has, the shelf
 pub record Outside : Type 0 where
   pub left : Option (List ℕ)
   pub written : Option (List ℕ)
-  pub files : Option Files
+  pub shelf : Shelved
 
 -- The source was read to its end, its bytes are a script and no more than one may have, and the
 -- text is all that its lines answer, one after another from an empty file on.
@@ -69,10 +80,37 @@ abbrev pub PlayIsDue : Option (List ℕ) → Option (List ℕ) → Status → Li
 PlayIsDue left rest Done text = PlaysScript left rest text
 PlayIsDue left rest Usage text = ⊥
 PlayIsDue left rest Script text = IsRefused left rest × (text ≡ refused_text)
+PlayIsDue left rest Image text = ⊥
 PlayIsDue left rest Input text = ⊥
 PlayIsDue left rest Output text = ⊥
 PlayIsDue left rest Shelf text = ⊥
 PlayIsDue left rest NoMemory text = ⊥
+PlayIsDue left rest Absent text = ⊥
+
+-- there is a file of this name, an image of version 1 that passes its checks
+pub record IsOldImage (files : Option Files) (image bytes : List ℕ) : Type 0 where
+  pub found : Finds files image bytes
+  pub sound : IsOldSound bytes
+
+-- there is a file of this name, and the text says which check of version 1 is the first that fails
+pub record IsDamaged (files : Option Files) (image text : List ℕ) : Type 0 where
+  pub bytes : List ℕ
+  pub found : Finds files image bytes
+  pub damage : Damage
+  pub first : damage_of (checks_of First bytes) ≡ Some damage
+  pub is_text : text ≡ damaged_text damage
+
+-- the status that `upgrade` of an image is to end with, and the text that it is to write
+abbrev pub UpgradeIsDue : Option Files → List ℕ → Status → List ℕ → Type 0
+UpgradeIsDue files image Done text = ((bytes : List ℕ) × IsOldImage files image bytes) × (text ≡ [])
+UpgradeIsDue files image Usage text = ⊥
+UpgradeIsDue files image Script text = ⊥
+UpgradeIsDue files image Image text = IsDamaged files image text
+UpgradeIsDue files image Input text = ⊥
+UpgradeIsDue files image Output text = ⊥
+UpgradeIsDue files image Shelf text = ⊥
+UpgradeIsDue files image NoMemory text = ⊥
+UpgradeIsDue files image Absent text = Misses files image × (text ≡ absent_text)
 
 -- the words are `play` of some image
 abbrev pub ArePlay : List (List ℕ) → Type 0
@@ -83,16 +121,31 @@ abbrev pub AreMkfs : List (List ℕ) → Type 0
 AreMkfs words =
     (image : List ℕ) × ((blocks : ℕ) × ((queues : ℕ) × IsMkfs words image blocks queues))
 
+-- the words are `upgrade` of some image
+abbrev pub AreUpgrade : List (List ℕ) → Type 0
+AreUpgrade words = (image : List ℕ) × ((new : List ℕ) × IsUpgrade words image new)
+
+-- the words are no command that saves
+abbrev pub SaveNone : List (List ℕ) → Type 0
+SaveNone words = (AreMkfs words → ⊥) × (AreUpgrade words → ⊥)
+
 -- the words are no command
 abbrev pub AreNone : List (List ℕ) → Type 0
-AreNone words = (ArePlay words → ⊥) × (AreMkfs words → ⊥)
+AreNone words = (ArePlay words → ⊥) × SaveNone words
+
+-- the words are `upgrade` of an image, and this is due of it
+abbrev pub IsDueOfUpgrade : List (List ℕ) → Option Files → Status → List ℕ → Type 0
+IsDueOfUpgrade words files status text = (image : List ℕ)
+    × ((new : List ℕ) × (IsUpgrade words image new × UpgradeIsDue files image status text))
 
 -- The status that the call is to end with, and the text that it is to write: `mkfs` writes none.
-abbrev pub IsDue : List (List ℕ) → Option (List ℕ) → Option (List ℕ) → Status → List ℕ → Type 0
-IsDue words left rest status text =
+abbrev pub IsDue : List (List ℕ) → Option Files → Option (List ℕ) → Option (List ℕ) → Status
+    → List ℕ → Type 0
+IsDue words files left rest status text =
     (ArePlay words × PlayIsDue left rest status text)
     ⊎ ((AreMkfs words × (status ≡ Done) × (text ≡ []))
-    ⊎ (AreNone words × (status ≡ Usage) × (text ≡ usage_text)))
+    ⊎ (IsDueOfUpgrade words files status text
+    ⊎ (AreNone words × (status ≡ Usage) × (text ≡ usage_text))))
 
 -- some front of a text that is due was written
 pub record WritesFront (due : Status → List ℕ → Type 0)
@@ -114,65 +167,122 @@ abbrev pub Writes : (Status → List ℕ → Type 0) → Status → Option (List
 Writes due Done before after = WritesAll due Done before after
 Writes due Usage before after = WritesAll due Usage before after
 Writes due Script before after = WritesAll due Script before after
+Writes due Image before after = WritesAll due Image before after
 Writes due Input before after = after ≡ before
 Writes due Output before after = WritesFront due before after
 Writes due Shelf before after = after ≡ before
 Writes due NoMemory before after = (after ≡ before) ⊎ WritesFront due before after
+Writes due Absent before after = WritesAll due Absent before after
 
--- the new image of `mkfs` stands under its name, and nothing else changed
-pub record SavesNew (words : List (List ℕ)) (old new : Option Files) : Type 0 where
-  pub image : List ℕ
-  pub blocks : ℕ
-  pub queues : ℕ
-  pub is_mkfs : IsMkfs words image blocks queues
-  pub saved : Saved old new image (new_image_of blocks queues)
+-- `mkfs` is to save these bytes under this name: the image of a new store
+abbrev pub IsNew : List (List ℕ) → List ℕ → List ℕ → Type 0
+IsNew words name bytes = (blocks : ℕ)
+    × ((queues : ℕ) × (IsMkfs words name blocks queues × (bytes ≡ new_image_of blocks queues)))
 
--- the save of `mkfs` failed, and each file of another name is as it was
-pub record FailsToSave (words : List (List ℕ)) (old new : Option Files) : Type 0 where
-  pub image : List ℕ
-  pub blocks : ℕ
-  pub queues : ℕ
-  pub is_mkfs : IsMkfs words image blocks queues
-  pub others : OthersKept old new image
+-- `upgrade` is to: what the image that is there becomes
+abbrev pub IsUpgraded : List (List ℕ) → Option Files → List ℕ → List ℕ → Type 0
+IsUpgraded words files name bytes = (image : List ℕ) × ((old : List ℕ)
+    × (IsUpgrade words image name × (IsOldImage files image old × (bytes ≡ upgraded old))))
 
--- what became of the files of the shelf
-abbrev pub LeavesShelf : Status → List (List ℕ) → Option Files → Option Files → Type 0
-LeavesShelf Done words old new = SavesNew words old new ⊎ ((AreMkfs words → ⊥) × (new ≡ old))
-LeavesShelf Usage words old new = new ≡ old
-LeavesShelf Script words old new = new ≡ old
-LeavesShelf Input words old new = new ≡ old
-LeavesShelf Output words old new = new ≡ old
-LeavesShelf Shelf words old new = FailsToSave words old new
-LeavesShelf NoMemory words old new = new ≡ old
+-- the bytes that are to be saved under a name stand there, and nothing else changed
+pub record Saves (words : List (List ℕ)) (old new : Option Files) : Type 0 where
+  pub name : List ℕ
+  pub bytes : List ℕ
+  pub are : IsNew words name bytes ⊎ IsUpgraded words old name bytes
+  pub saved : Saved old new name bytes
+
+-- a load of the shelf met a fault, and each file is as it was
+pub record LoadFails (before after : Shelved) : Type 0 where
+  pub rose : Rose before.loads after.loads
+  pub saves : after.saves ≡ before.saves
+  pub files : after.files ≡ before.files
+
+-- a save under this name met a fault, and each file of another name is as it was
+pub record SaveFails (name : List ℕ) (before after : Shelved) : Type 0 where
+  pub rose : Rose before.saves after.saves
+  pub loads : after.loads ≡ before.loads
+  pub others : OthersKept before.files after.files name
+
+-- the bytes that were to be saved under a name met a fault
+pub record FailsToSave (words : List (List ℕ)) (before after : Shelved) : Type 0 where
+  pub name : List ℕ
+  pub bytes : List ℕ
+  pub are : IsNew words name bytes ⊎ IsUpgraded words before.files name bytes
+  pub fails : SaveFails name before after
+
+-- what became of the shelf: only `upgrade` loads
+abbrev pub LeavesShelf : Status → List (List ℕ) → Shelved → Shelved → Type 0
+LeavesShelf Done words before after =
+    Saves words before.files after.files ⊎ (SaveNone words × (after.files ≡ before.files))
+LeavesShelf Usage words before after = after.files ≡ before.files
+LeavesShelf Script words before after = after.files ≡ before.files
+LeavesShelf Image words before after = after.files ≡ before.files
+LeavesShelf Input words before after = after.files ≡ before.files
+LeavesShelf Output words before after = after.files ≡ before.files
+LeavesShelf Shelf words before after =
+    (AreUpgrade words × LoadFails before after) ⊎ FailsToSave words before after
+LeavesShelf NoMemory words before after = after.files ≡ before.files
+LeavesShelf Absent words before after = after.files ≡ before.files
 
 -- A call with these words ended so: what it wrote is what is due, and the shelf is as the status
 -- says. Only `play` reads the source.
 pub record Ends (status : Status) (words : List (List ℕ)) (before after : Outside) : Type 0 where
-  pub writes : Writes (IsDue words before.left after.left) status before.written after.written
+  pub writes : Writes (IsDue words before.shelf.files before.left after.left) status
+      before.written after.written
   pub asked : status ≡ Input → ArePlay words
   pub came : SomeCame before.left after.left
   pub unread : (ArePlay words → ⊥) → after.left ≡ before.left
-  pub files : LeavesShelf status words before.files after.files
+  pub shelf : LeavesShelf status words before.shelf after.shelf
 
--- what became of the files of the shelf by `mkfs`
-abbrev pub Makes : Status → List ℕ → ℕ → ℕ → Option Files → Option Files → Type 0
-Makes Done image blocks queues old new = Saved old new image (new_image_of blocks queues)
-Makes Usage image blocks queues old new = ⊥
-Makes Script image blocks queues old new = ⊥
-Makes Input image blocks queues old new = ⊥
-Makes Output image blocks queues old new = ⊥
-Makes Shelf image blocks queues old new = OthersKept old new image
-Makes NoMemory image blocks queues old new = new ≡ old
+-- what became of the shelf by `mkfs`
+abbrev pub Makes : Status → List ℕ → ℕ → ℕ → Shelved → Shelved → Type 0
+Makes Done image blocks queues before after =
+    Saved before.files after.files image (new_image_of blocks queues)
+Makes Usage image blocks queues before after = ⊥
+Makes Script image blocks queues before after = ⊥
+Makes Image image blocks queues before after = ⊥
+Makes Input image blocks queues before after = ⊥
+Makes Output image blocks queues before after = ⊥
+Makes Shelf image blocks queues before after = SaveFails image before after
+Makes NoMemory image blocks queues before after = after.files ≡ before.files
+Makes Absent image blocks queues before after = ⊥
+
+-- what an image became under a new name
+pub record Renews (image name : List ℕ) (old new : Option Files) : Type 0 where
+  pub bytes : List ℕ
+  pub is_old : IsOldImage old image bytes
+  pub saved : Saved old new name (upgraded bytes)
+
+-- it was to, and could not be saved
+pub record FailsToRenew (image name : List ℕ) (before after : Shelved) : Type 0 where
+  pub bytes : List ℕ
+  pub is_old : IsOldImage before.files image bytes
+  pub fails : SaveFails name before after
+
+-- what became of the shelf by `upgrade`
+abbrev pub Upgrades : Status → List ℕ → List ℕ → Shelved → Shelved → Type 0
+Upgrades Done image name before after = Renews image name before.files after.files
+Upgrades Usage image name before after = ⊥
+Upgrades Script image name before after = ⊥
+Upgrades Image image name before after = after.files ≡ before.files
+Upgrades Input image name before after = ⊥
+Upgrades Output image name before after = after.files ≡ before.files
+Upgrades Shelf image name before after =
+    LoadFails before after ⊎ FailsToRenew image name before after
+Upgrades NoMemory image name before after = after.files ≡ before.files
+Upgrades Absent image name before after = after.files ≡ before.files
 
 -- the call ended with the status that was due
 abbrev pub IsHeeded : Status → Type 0
 IsHeeded Done = Unit {0}
 IsHeeded Usage = Unit {0}
 IsHeeded Script = Unit {0}
+IsHeeded Image = Unit {0}
 IsHeeded Input = ⊥
 IsHeeded Output = ⊥
 IsHeeded Shelf = ⊥
 IsHeeded NoMemory = ⊥
+IsHeeded Absent = Unit {0}
 
 -- the text was written, which ends with this status, or a front of it, which ends with a fault
 abbrev pub Says : Status → Status → List ℕ → Option (List ℕ) → Option (List ℕ) → Type 0

@@ -2,6 +2,7 @@
 use Rattle.std.specs.Prelude.{ℕ, List, [], ◌∷◌, ◌++◌, length, codes}
 use Rattle.std.specs.Fmt.{decimal}
 use Rattle.hex.specs.Hex.{encode_lower}
+use Rattle.cfs_image.specs.Checks.{Damage}
 use Rattle.cfs_top.specs.declared.printed.Printed.{Printed}
 use Rattle.cfs_top.specs.declared.printed.Printed.TheVariants.{Opened, Wrote, Got, Done}
 use Rattle.cfs_top.specs.declared.out_line.OutLine.{OutLine}
@@ -11,6 +12,15 @@ usage_text = codes "usage\n"
 
 abbrev pub refused_text : List ℕ
 refused_text = codes "script refused\n"
+
+abbrev pub absent_text : List ℕ
+absent_text = codes "absent\n"
+
+-- what the first check of an image that fails has found, and where, and against which number
+abbrev pub damaged_text : Damage → List ℕ
+damaged_text damage =
+    codes "image refused: offset " ++ (decimal damage.offset ++ (codes " found "
+    ++ (decimal damage.found ++ (codes " against " ++ (decimal damage.against ++ codes "\n")))))
 
 -- the line's number, and the file and the place of its request
 abbrev pub head_text : ℕ → ℕ → ℕ → List ℕ

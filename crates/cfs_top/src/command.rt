@@ -3,7 +3,7 @@
 ghost use Rattle.std.specs.Prelude.{◌≡◌, ◌==◌, ◌≤◌, ◌&&◌, List, ℕ, get_or, nat_le, length, IfSome, IfNone};
 ghost use Rattle.std.specs.Fmt.{decimal};
 ghost use Rattle.std.specs.List.{list_all};
-ghost use Rattle.cfs_top.specs.Command.{IsMkfs, IsPlay, is_image_byte, is_image_name};
+ghost use Rattle.cfs_top.specs.Command.{IsMkfs, IsPlay, IsUpgrade, is_image_byte, is_image_name};
 
 use cfs_file::Word;
 use cfs_image::{FEWEST_BLOCKS, FEWEST_QUEUES, MOST_BLOCKS, MOST_QUEUES};
@@ -18,6 +18,15 @@ pub(crate) struct NewStore<'a> {
     pub(crate) blocks: u32,
     /// How many queues it has.
     pub(crate) queues: u32,
+}
+
+/// An image that is to be upgraded.
+#[derive(Clone, Copy)]
+pub(crate) struct Upgrade<'a> {
+    /// The name of the image.
+    pub(crate) image: &'a Word,
+    /// The name of the new image.
+    pub(crate) new: &'a Word,
 }
 
 /// The store of `mkfs IMAGE BLOCKS QUEUES`, if the words are that command. The first word is the
@@ -56,6 +65,28 @@ fn is_mkfs(word: &Word) -> bool
     ensures { result ≡ Rattle.cfs_top.specs.Command.is_mkfs word.now }
 {
     word.as_slice() == b"mkfs".as_slice()
+}
+
+/// The images of `upgrade IMAGE NEW`, if the words are that command. The first word is the
+/// program's name.
+pub(crate) fn image_to_upgrade(words: &[Word]) -> Option<Upgrade<'_>>
+    ensures found { IfSome result (λ upgrade.
+        IsUpgrade words.now upgrade.image.now upgrade.new.now) }
+    ensures none { IfNone result ((image new : List ℕ) → IsUpgrade words.now image new → ⊥) }
+{
+    let [_, command, image, new] = words else {
+        return None;
+    };
+    if !is_upgrade(command) || !is_image(image) || !is_image(new) || *new == *image {
+        return None;
+    }
+    Some(Upgrade { image, new })
+}
+
+fn is_upgrade(word: &Word) -> bool
+    ensures { result ≡ Rattle.cfs_top.specs.Command.is_upgrade word.now }
+{
+    word.as_slice() == b"upgrade".as_slice()
 }
 
 /// The image of `play IMAGE`, if the words are that command. The first word is the program's name.

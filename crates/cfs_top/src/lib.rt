@@ -6,9 +6,11 @@ mod command;
 mod out_line;
 mod play;
 mod printed;
+mod say;
 mod stage;
 mod status;
 mod steady;
+mod upgrade;
 mod world;
 
 pub use status::Status;

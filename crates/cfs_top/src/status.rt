@@ -12,6 +12,8 @@ pub enum Status {
     Usage,
     /// The input is no script.
     Script,
+    /// The image is none that the command takes.
+    Image,
     /// The source had a fault.
     Input,
     /// The sink had a fault.
@@ -20,6 +22,8 @@ pub enum Status {
     Shelf,
     /// Want of memory.
     NoMemory,
+    /// The shelf has no image of that name.
+    Absent,
 }
 
 impl Status {
@@ -31,10 +35,12 @@ impl Status {
             Status::Done => 0,
             Status::Usage => 1,
             Status::Script => 2,
+            Status::Image => 3,
             Status::Input => 4,
             Status::Output => 5,
             Status::Shelf => 6,
             Status::NoMemory => 7,
+            Status::Absent => 8,
         }
     }
 }

@@ -5,16 +5,18 @@ ghost use Rattle.std.specs.declared.option.Option.{Option};
 ghost use Rattle.cfs_image.specs.declared.layout.TheConstants.{FEWEST_BLOCKS, FEWEST_QUEUES, MOST_BLOCKS, MOST_QUEUES};
 ghost use Rattle.cfs_pmem.specs.Faults.{Rose};
 ghost use Rattle.cfs_io.specs.Streams.{SomeCame};
-ghost use Rattle.cfs_top.specs.Outside.{Ends, IsHeeded, Makes, PlayIsDue, Says, Writes};
+ghost use Rattle.cfs_top.specs.Outside.{Ends, Makes, PlayIsDue, Writes};
 
 use crate::Status;
-use crate::command::{image_to_play, store_to_make};
+use crate::command::{image_to_play, image_to_upgrade, store_to_make};
 use crate::play::{PlayEnd, play_script};
+use crate::say::say;
 use crate::stage::are_served;
+use crate::upgrade::upgrade;
 use crate::world::World;
 use cfs_file::{NoMemory, Word};
 use cfs_image::new_image;
-use cfs_io::{IoFault, ReadRefusal, Shelf, Sink, Source, read_script, write_all};
+use cfs_io::{IoFault, ReadRefusal, Shelf, Sink, Source, read_script};
 use cfs_script::{ScriptRefusal, read_play};
 use std::alloc::Global;
 
@@ -26,6 +28,9 @@ use std::alloc::Global;
 /// `play IMAGE` reads a script from `input` and writes what the script's lines answer to `output`.
 /// The image is neither loaded nor saved yet: each script begins with an empty file system. A
 /// script of more than one caller and the file `/a` is refused yet.
+///
+/// `upgrade IMAGE NEW` saves what the image of version 1 becomes as an image of the present version,
+/// under another name. It reads no input, and the old image stays as it was.
 pub fn crossfs_steady<S: Source, K: Sink, H: Shelf>(
     alloc: Global,
     words: &[Word],
@@ -37,12 +42,20 @@ pub fn crossfs_steady<S: Source, K: Sink, H: Shelf>(
         (record {
           left = S.left input.old;
           written = K.written output.old;
-          files = H.files shelf.old;
+          shelf = record {
+            files = H.files shelf.old;
+            loads = H.load_faults shelf.old;
+            saves = H.save_faults shelf.old;
+          };
         })
         (record {
           left = S.left input.new;
           written = K.written output.new;
-          files = H.files shelf.new;
+          shelf = record {
+            files = H.files shelf.new;
+            loads = H.load_faults shelf.new;
+            saves = H.save_faults shelf.new;
+          };
         }) }
 
     // A fault is answered only where there was one, and none is passed over.
@@ -50,13 +63,14 @@ pub fn crossfs_steady<S: Source, K: Sink, H: Shelf>(
     ensures output { result ≡ Status.Output → Rose (K.faults output.old) (K.faults output.new) }
     ensures source { result ≢ Status.Input → S.faults input.new ≡ S.faults input.old }
     ensures sink { result ≢ Status.Output → K.faults output.new ≡ K.faults output.old }
-    ensures shelf { result ≡ Status.Shelf →
-        Rose (H.save_faults shelf.old) (H.save_faults shelf.new) }
-    ensures loads { H.load_faults shelf.new ≡ H.load_faults shelf.old }
+    ensures loads { result ≢ Status.Shelf → H.load_faults shelf.new ≡ H.load_faults shelf.old }
     ensures saves { result ≢ Status.Shelf → H.save_faults shelf.new ≡ H.save_faults shelf.old }
 {
     if let Some(store) = store_to_make(words) {
         return mkfs(alloc, store.image, store.blocks, store.queues, shelf);
+    }
+    if let Some(images) = image_to_upgrade(words) {
+        return upgrade(alloc, images.image, images.new, output, shelf);
     }
     match image_to_play(words) {
         Some(_) => play(alloc, input, output),
@@ -70,9 +84,17 @@ fn mkfs<H: Shelf>(alloc: Global, image: &Word, blocks: u32, queues: u32, shelf: 
     requires most_blocks { blocks ≤ MOST_BLOCKS }
     requires fewest_queues { FEWEST_QUEUES ≤ queues }
     requires most_queues { queues ≤ MOST_QUEUES }
-    ensures made { Makes result image.now blocks queues (H.files shelf.old) (H.files shelf.new) }
-    ensures shelf { result ≡ Status.Shelf →
-        Rose (H.save_faults shelf.old) (H.save_faults shelf.new) }
+    ensures made { Makes result image.now blocks queues
+        (record {
+          files = H.files shelf.old;
+          loads = H.load_faults shelf.old;
+          saves = H.save_faults shelf.old;
+        })
+        (record {
+          files = H.files shelf.new;
+          loads = H.load_faults shelf.new;
+          saves = H.save_faults shelf.new;
+        }) }
     ensures loads { H.load_faults shelf.new ≡ H.load_faults shelf.old }
     ensures saves { result ≢ Status.Shelf → H.save_faults shelf.new ≡ H.save_faults shelf.old }
 {
@@ -116,18 +138,5 @@ fn play<S: Source, K: Sink>(alloc: Global, input: &mut S, output: &mut K) -> Sta
         Ok(()) => Status::Done,
         Err(PlayEnd::Output) => Status::Output,
         Err(PlayEnd::NoMemory) => Status::NoMemory,
-    }
-}
-
-/// Writes a text that ends the program with `status`, or fails to.
-fn say<K: Sink>(output: &mut K, text: &[u8], status: Status) -> Status
-    requires { IsHeeded status }
-    ensures said { Says result status text.now (K.written output.old) (K.written output.new) }
-    ensures output { result ≡ Status.Output → Rose (K.faults output.old) (K.faults output.new) }
-    ensures sink { result ≢ Status.Output → K.faults output.new ≡ K.faults output.old }
-{
-    match write_all(output, text) {
-        Ok(()) => status,
-        Err(IoFault) => Status::Output,
     }
 }

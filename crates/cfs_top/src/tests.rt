@@ -1,6 +1,6 @@
 use crate::{Status, crossfs_steady};
 use cfs_file::{Bytes, NoMemory, Word};
-use cfs_image::new_image;
+use cfs_image::{NAME, new_image};
 use cfs_io::{MemShelf, MemSink, MemSource, Shelf};
 use std::alloc::Global;
 use std::test::Fail;
@@ -180,10 +180,12 @@ fn each_status_has_its_number(rt: HostRuntime) {
         (Status::Done, 0),
         (Status::Usage, 1),
         (Status::Script, 2),
+        (Status::Image, 3),
         (Status::Input, 4),
         (Status::Output, 5),
         (Status::Shelf, 6),
         (Status::NoMemory, 7),
+        (Status::Absent, 8),
     ] {
         assert_eq!(rt; status.number(), number);
     }
@@ -277,5 +279,118 @@ fn mkfs_takes_numbers_in_their_ranges(rt: HostRuntime) -> Result<(), Fail> {
         let ended = run(alloc, &words, "", Some(1), None)?;
         assert_eq!(rt; ended.status, Status::Usage);
     }
+    Ok(())
+}
+
+fn put_word(image: &mut Vec<u8>, at: usize, word: u64) {
+    if at < image.len() && image.len() - at >= 8 {
+        image[at..at + 8].copy_from_slice(&word.to_le_bytes());
+    }
+}
+
+/// The image of version 1 of a new store of 16 blocks and one queue.
+fn old_image(alloc: Global) -> Result<Vec<u8>, NoMemory> {
+    let mut image = vec![in alloc; 0; 190_904]?;
+    for (at, word) in [(0, NAME), (8, 1), (16, 16), (24, 1)] {
+        put_word(&mut image, at, word);
+    }
+    for (at, word) in [(40, 2), (48, 1), (56, 1), (64, 2), (72, 0o777)] {
+        put_word(&mut image, at, word);
+    }
+    Ok(image)
+}
+
+/// A shelf whose call of that number fails: the image of version 1 as `d`, its front as `cut`, and
+/// the image of the present version as `e`.
+fn shelf_of_images(alloc: Global, failing: Option<u64>) -> Result<MemShelf, NoMemory> {
+    let old = old_image(alloc)?;
+    let new = new_image(alloc, 16, 1)?;
+    let mut files = Vec::new(alloc);
+    for (name, bytes) in [
+        ("d", old.as_slice()),
+        ("cut", old.get(..1000).unwrap_or(&[])),
+        ("e", new.as_slice()),
+    ] {
+        let word = Word::from_slice(alloc, name.as_bytes())?;
+        files.push((word, Bytes::from_slice(alloc, bytes)?))?;
+    }
+    Ok(MemShelf::with_files(alloc, files, numbers(alloc, failing)?))
+}
+
+/// Calls `upgrade` over a source whose first read fails, and a sink whose write of that number does.
+fn upgrade(
+    alloc: Global,
+    shelf: &mut MemShelf,
+    image: &str,
+    new: &str,
+    write: Option<u64>,
+) -> Result<Ended, NoMemory> {
+    let words = words_of(alloc, &["crossfs", "upgrade", image, new])?;
+    let mut input = MemSource::new(Vec::new(alloc), numbers(alloc, Some(1))?);
+    let mut output = MemSink::new(alloc, numbers(alloc, write)?);
+    let status = crossfs_steady(alloc, words.as_slice(), &mut input, &mut output, shelf);
+    Ok(Ended {
+        status,
+        output: Vec::from_slice(alloc, output.written())?,
+    })
+}
+
+#[test]
+fn upgrade_saves_the_new_image_or_says_why_not(rt: HostRuntime) -> Result<(), Fail> {
+    let alloc = rt.alloc();
+    let old = old_image(alloc)?;
+    for (image, new, failing, write, status, expected) in [
+        ("d", "f", None, None, Status::Done, ""),
+        ("d", "cut", None, Some(1), Status::Done, ""),
+        (
+            "e",
+            "f",
+            None,
+            None,
+            Status::Image,
+            "image refused: offset 8 found 2 against 1\n",
+        ),
+        (
+            "cut",
+            "f",
+            None,
+            None,
+            Status::Image,
+            "image refused: offset 1000 found 1000 against 190904\n",
+        ),
+        ("f", "e", None, None, Status::Absent, "absent\n"),
+        ("f", "e", None, Some(1), Status::Output, ""),
+        ("cut", "f", None, Some(1), Status::Output, ""),
+        ("d", "f", Some(1), None, Status::Shelf, ""),
+        ("d", "f", Some(2), None, Status::Shelf, ""),
+        ("d", "d", None, None, Status::Usage, "usage\n"),
+        ("d", "-f", None, None, Status::Usage, "usage\n"),
+        ("d", "", None, None, Status::Usage, "usage\n"),
+        ("a b", "f", None, None, Status::Usage, "usage\n"),
+    ] {
+        let mut shelf = shelf_of_images(alloc, failing)?;
+        let ended = upgrade(alloc, &mut shelf, image, new, write)?;
+        assert_eq!(rt; ended.status, status, "{image} {new}");
+        assert_eq!(rt; ended.output.as_slice(), expected.as_bytes(), "{image} {new}");
+        let kept = load(alloc, &mut shelf, "d")?;
+        assert!(rt; kept.as_slice() == old.as_slice(), "{image} {new}");
+    }
+    Ok(())
+}
+
+#[test]
+fn upgrade_saves_under_the_new_name(rt: HostRuntime) -> Result<(), Fail> {
+    let alloc = rt.alloc();
+    let want = new_image(alloc, 16, 1)?;
+    for name in ["f", "cut"] {
+        let mut shelf = shelf_of_images(alloc, None)?;
+        let ended = upgrade(alloc, &mut shelf, "d", name, None)?;
+        assert_eq!(rt; ended.status, Status::Done);
+        let saved = load(alloc, &mut shelf, name)?;
+        assert!(rt; saved.as_slice() == want.as_slice(), "{name}");
+    }
+    let mut shelf = shelf_of_images(alloc, Some(1))?;
+    let ended = upgrade(alloc, &mut shelf, "d", "f", None)?;
+    assert_eq!(rt; (ended.status, shelf.load_faults(), shelf.save_faults()), (Status::Shelf, 1, 0));
     Ok(())
 }
