@@ -36,5 +36,8 @@ pub mod Hoare
 pub mod ShownFiles
 pub mod ShownBlocks
 pub mod ShownJobs
+pub mod ShownParts
+pub mod ShownReads
 pub mod ShownLines
 pub mod ShownCrash
+pub mod SavedRuns

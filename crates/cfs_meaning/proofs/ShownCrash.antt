@@ -1,10 +1,10 @@
 -- A crash leaves less than could be left before.
-use Rattle.std.proofs.Common.{◌≡◌, ℕ, zero, suc, ◌+◌, ◌%◌, ◌<◌, ◌≤◌, Bool, true, false, ◌&&◌, ◌||◌, Option, Some, None, List, [], ◌∷◌, length, map, get_or, set, inl, inr, refl, sym, ap, ◌∙◌, subst, arith, ⊎_elim, if◌then◌else◌}
+use Rattle.std.proofs.Common.{◌≡◌, ℕ, zero, suc, ◌+◌, ◌%◌, ◌<◌, ◌≤◌, Bool, true, false, ◌&&◌, ◌||◌, Option, Some, None, List, [], ◌∷◌, length, map, take, get_or, set, inl, inr, refl, sym, ap, ◌∙◌, subst, arith, ⊎_elim, if◌then◌else◌}
 use Rattle.std.specs.Prelude.{Result, Ok, Err, nat_le, nat_lt}
 use Rattle.std.specs.List.{All}
 use Rattle.std.specs.Option.{option_map}
 use Rattle.std.proofs.lemmas.Bool.{and_parts, cases_lt, leb-true, ltb-true, or_cases}
-use Rattle.std.proofs.lemmas.List.{get_or_past}
+use Rattle.std.proofs.lemmas.List.{get_or-take, get_or_past, length-take}
 use Rattle.cfs_file.specs.declared.sizes.TheConstants.{BLOCK_LEN}
 use Rattle.cfs_pmem.specs.declared.pick.Pick.{Pick}
 use Rattle.cfs_pmem.specs.declared.pick.Pick.TheVariants.{Drawn, Durable, Present}
@@ -27,7 +27,7 @@ use Rattle.cfs_print.specs.declared.printed.Printed.{Printed}
 use Rattle.cfs_script.specs.declared.form.Form.TheVariants as forms
 use Rattle.cfs_meaning.specs.Play.{crash_in, crashed, does, steps_so}
 use Rattle.cfs_meaning.specs.Ways.{Halt, changes, ends, follows, gives}
-use Rattle.cfs_meaning.specs.Devices.{CrashesLeaveLess, CrashesRecover, IsEven, IsEvenBlock, IsEvenRegion, IsRecovered, OfEachFile, devices_of_file}
+use Rattle.cfs_meaning.specs.Devices.{CrashesLeaveLess, CrashesRecover, IsEven, IsEvenBlock, IsEvenRegion, IsRecovered, IsTreeShown, OfEachFile, devices_of_file}
 use Rattle.cfs_meaning.proofs.ShownFiles.{files-map, shown-files-recover}
 
 -- ---- one object
@@ -58,7 +58,7 @@ byte-possible history k true (Drawn state) durable present is d p =
     anything history k (draw_of state % 256) is (omega arith)
 byte-possible history k false (Drawn state) durable present is d p = p
 
-block-left : (seen : Seen BlockStep) (pick : Pick) → IsEvenBlock seen →
+pub block-left : (seen : Seen BlockStep) (pick : Pick) → IsEvenBlock seen →
     IsBlockImage seen.history (block_left pick seen.history)
 block-left seen pick even =
     let same : length (content_kept seen.history).bytes ≡ length (content_now seen.history).bytes =
@@ -109,7 +109,7 @@ block-less pick seen even image h =
 
 -- ---- lists of objects
 
-left-at : {Form : Type 0} (left : Pick → Seen Form → Seen Form) (next : Pick → Seen Form → Pick)
+pub left-at : {Form : Type 0} (left : Pick → Seen Form → Seen Form) (next : Pick → Seen Form → Pick)
     (pick : Pick) (seens : List (Seen Form)) (r : ℕ) (d : Seen Form) → r < length seens →
     (p : Pick) × (get_or (all_left left next pick seens) r d ≡ left p (get_or seens r d))
 left-at left next pick [] r d low = absurd (omega arith)
@@ -117,7 +117,7 @@ left-at left next pick (seen ∷ rest) zero d low = (pick, refl)
 left-at left next pick (seen ∷ rest) (suc r) d low =
     left-at left next (next pick seen) rest r d (omega arith)
 
-left-length : {Form : Type 0} (left : Pick → Seen Form → Seen Form)
+pub left-length : {Form : Type 0} (left : Pick → Seen Form → Seen Form)
     (next : Pick → Seen Form → Pick) (pick : Pick) (seens : List (Seen Form)) →
     length (all_left left next pick seens) ≡ length seens
 left-length left next pick [] = refl
@@ -186,20 +186,47 @@ pub crashes-leave-less : CrashesLeaveLess
 crashes-leave-less k drive f even recovers up remains h =
     recovers up remains (remains-less k drive f remains even h)
 
+-- ---- the tree
+
+-- of regions of which one after another was left by a crash
+regions-less : (pick : Pick) (seens : List (Seen WordStep)) → All IsEvenRegion seens →
+    (images : List (List ℕ)) → IsEachImage IsImage (regions_left pick seens) images →
+    IsEachImage IsImage seens images
+regions-less pick [] even [] h = h
+regions-less pick [] even (image ∷ images) h = h
+regions-less pick (seen ∷ rest) even [] h = h
+regions-less pick (seen ∷ rest) even (image ∷ images) h =
+    (region-less pick seen (even 0 seen (omega arith)) image h.0,
+    regions-less (after_region pick seen) rest (λ k d low. even (suc k) d (omega (arith, low))) images
+    h.1)
+
+take-left : (n : ℕ) (pick : Pick) (seens : List (Seen WordStep)) →
+    take n (regions_left pick seens) ≡ regions_left pick (take n seens)
+take-left zero pick [] = refl
+take-left zero pick (seen ∷ rest) = refl
+take-left (suc n) pick [] = refl
+take-left (suc n) pick (seen ∷ rest) =
+    ap (λ l. region_left pick seen ∷ l) (take-left n (after_region pick seen) rest)
+
+take-even : (n : ℕ) (seens : List (Seen WordStep)) → All IsEvenRegion seens →
+    All IsEvenRegion (take n seens)
+take-even n seens even = λ k d low.
+    let short = length-take n seens in
+    subst IsEvenRegion (sym (get_or-take n seens k d (omega (arith, short, low))))
+    (even k d (omega (arith, short, low)))
+
+pub tree-less : (k : ℕ) (world : World) → IsEven world.drive → IsTreeShown world →
+    IsTreeShown (crash_in k world)
+tree-less k world even tree images h =
+    tree images (regions-less (pick_of k) (take 67 world.drive.regions)
+    (take-even 67 world.drive.regions even.regions) images
+    (subst (λ seens. IsEachImage IsImage seens images)
+    (take-left 67 (pick_of k) world.drive.regions) h))
+
 -- ---- the line of a crash
 
-crash-ends : (line k : ℕ) (old : World) (end : Result (Option Printed) Halt) (new : World) →
+pub crash-ends : (line k : ℕ) (old : World) (end : Result (Option Printed) Halt) (new : World) →
     does line (forms.Crash k) old end new → new ≡ crash_in k old
 crash-ends line k old end new (ends (ends way)) = elim way [ ]
 crash-ends line k old end new (ends (follows changes way)) = elim way [ ]
 crash-ends line k old end new (follows (follows changes gives) gives) = refl
-
-pub crashes-recover : CrashesRecover
-crashes-recover old new line k out is reached shown (steps_so end way) =
-    let crash : does line.number (forms.Crash k) old end new =
-    subst (λ f. does line.number f old end new) is way in
-    let same = crash-ends line.number k old end new crash in
-    subst (λ w. OfEachFile (IsRecovered w.drive) w.files) (sym same)
-    (files-map (IsRecovered old.drive) (IsRecovered (crashed k old.drive))
-    (λ f recovers. crashes-leave-less k old.drive f shown.even recovers) old.files
-    (shown-files-recover old shown reached))

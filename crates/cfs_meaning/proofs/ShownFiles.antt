@@ -44,7 +44,7 @@ in-files P test (g ∷ files) f is all =
     pick false rest now = rest now
 
 -- where none has the number, none is replaced
-none-replaced : (new : File) (files : List File) →
+pub none-replaced : (new : File) (files : List File) →
     OfEachFile (λ f. f.ino ≢ new.ino) files → map (replaces new) files ≡ files
 none-replaced new [] none = refl
 none-replaced new (f ∷ files) none =

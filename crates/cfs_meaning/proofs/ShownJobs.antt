@@ -38,7 +38,7 @@ use Rattle.cfs_pmem.proofs.AskLemmas.{asks_one}
 use Rattle.cfs_pmem.proofs.MomentLemmas.{begun}
 use Rattle.cfs_pmem.proofs.Patches.{length-patched, patched_same}
 use Rattle.cfs_block.specs.BlockImages.{BlockStep, Content, DiffersWithin, IsBlockImage, IsRangedFrom, IsTorn, content_of, kept, ranged, unflushed, unwritten, with_bytes, wrote}
-use Rattle.cfs_block.specs.BlockOps.{BlockOp, block_done, flush, put_bytes}
+use Rattle.cfs_block.specs.BlockOps.{BlockOp, block_done, flush, get_bytes, put_bytes}
 use Rattle.cfs_block.proofs.BlockMoments.{on_flush, on_stall, on_torn, on_write}
 use Rattle.cfs_medium.specs.BlockEvents.{Flushes, IsPiece}
 use Rattle.cfs_medium.specs.Shows.{Shows}
@@ -98,17 +98,18 @@ one-op b op drive = by-test (is_allowed (Block b op) drive)
 
 -- ---- operations that read
 
-abbrev is_reading : Op → Bool
+abbrev pub is_reading : Op → Bool
 is_reading (Word r (get at)) = true
 is_reading (Word r other) = false
-is_reading (Block b op) = false
+is_reading (Block b get_bytes) = true
+is_reading (Block b other) = false
 
-abbrev AreReads : List Op → Type 0
+abbrev pub AreReads : List Op → Type 0
 AreReads [] = Unit {0}
 AreReads (op ∷ ops) = (is_reading op ≡ true) × AreReads ops
 
 -- the power notes them, and all else stays
-abbrev IsAsked : Drive → Drive → Type 0
+abbrev pub IsAsked : Drive → Drive → Type 0
 IsAsked drive new = (asked : List Asked) × (new ≡ record drive { asked = asked })
 
 read-made : (op : Op) (drive : Drive) (asked : List Asked) → is_reading op ≡ true →
@@ -116,16 +117,20 @@ read-made : (op : Op) (drive : Drive) (asked : List Asked) → is_reading op ≡
 read-made (Word r (get at)) drive asked is =
     ap (λ list. record drive { asked = asked; regions = list }) (set-get_or drive.regions r _)
 read-made (Word r other) drive asked is = absurd (cc)
-read-made (Block b op) drive asked is = absurd (cc)
+read-made (Block b get_bytes) drive asked is =
+    ap (λ list. record drive { asked = asked; blocks = list }) (set-get_or drive.blocks b _)
+read-made (Block b other) drive asked is = absurd (cc)
 
 read-refused : (op : Op) (drive : Drive) (asked : List Asked) → is_reading op ≡ true →
     refused op (record drive { asked = asked }) ≡ record drive { asked = asked }
 read-refused (Word r (get at)) drive asked is =
     ap (λ list. record drive { asked = asked; regions = list }) (set-get_or drive.regions r _)
 read-refused (Word r other) drive asked is = absurd (cc)
-read-refused (Block b op) drive asked is = absurd (cc)
+read-refused (Block b get_bytes) drive asked is =
+    ap (λ list. record drive { asked = asked; blocks = list }) (set-get_or drive.blocks b _)
+read-refused (Block b other) drive asked is = absurd (cc)
 
-reads-only : (ops : List Op) → AreReads ops → (drive : Drive) →
+pub reads-only : (ops : List Op) → AreReads ops → (drive : Drive) →
     IsAsked drive (attempt ops drive).drive
 unfolding attempt
 reads-only [] all drive = (drive.asked, refl)
@@ -611,7 +616,7 @@ written-shown world ino place k ok asked left work may_be left_is =
     (subst (λ l. may core (events.BlockWrite place k l) ≡ true) stands may_be)) work.shown))
 
 -- the world with all but what the power was asked
-abbrev IsAskedOf : World → World → Type 0
+abbrev pub IsAskedOf : World → World → Type 0
 IsAskedOf x w = (asked : List Asked) × (w ≡ record x { drive = record x.drive { asked = asked } })
 
 write-tries : (x : World) (ino place k : ℕ) (w : World) → IsAskedOf x w →

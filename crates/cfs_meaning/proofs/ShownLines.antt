@@ -3,6 +3,7 @@ use Rattle.std.proofs.Common.{◌≡◌, ℕ, ◌+◌, Bool, true, false, not, O
 use Rattle.std.specs.Prelude.{Result, Ok, Err}
 use Rattle.cfs_file.specs.declared.entry.Entry.{Entry}
 use Rattle.cfs_file.specs.declared.request.Request.{Request}
+use Rattle.cfs_file.specs.declared.request.Request.TheVariants as requests
 use Rattle.cfs_core.specs.declared.event.Event.TheVariants as events
 use Rattle.cfs_medium.proofs.QuietEvents.{quiet-events-show}
 use Rattle.cfs_medium.proofs.ReadEvents.{reads-may-come}
@@ -16,9 +17,9 @@ use Rattle.cfs_words.specs.declared.seek.Seek.{Seek}
 use Rattle.cfs_meaning.specs.Drive.{Drive}
 use Rattle.cfs_meaning.specs.World.{Descriptor, Down, Failed, Phase, Up, World, core_in, descriptor_in, file_in, with_descriptor, with_file}
 use Rattle.cfs_meaning.specs.Inode.{Absent, Behind, Ready, Verdict, admit_read, dispatch, verdict, with_passed}
-use Rattle.cfs_meaning.specs.Files.{at_position, has_no_power, list_queue, lseek, move_to, moved_by, opened, opened_to_read, post}
+use Rattle.cfs_meaning.specs.Files.{has_no_power, list_queue, lseek, most_read, move_to, opened, opened_to_read, post}
 use Rattle.cfs_meaning.specs.Workers.{apply_line, dispatch_by, dispatch_line, there}
-use Rattle.cfs_meaning.specs.Devices.{IsOfFile, IsShown, LinesKeepShown, keeps_shown}
+use Rattle.cfs_meaning.specs.Devices.{IsShown, Suits, LinesKeepShown, keeps_shown}
 use Rattle.cfs_meaning.specs.Laws.{AreReached, is_mount}
 use Rattle.cfs_meaning.specs.Play.{does, mount_line, plan, planned, steps_so, stopped, told, up, while_up}
 use Rattle.cfs_meaning.specs.Ways.{Halt, Now, Way, give, known, now, refuse_if, ◌>>=◌}
@@ -26,70 +27,9 @@ use Rattle.cfs_meaning.proofs.Hoare.{Leaves, leave-changes, leave-end, leave-eve
 use Rattle.cfs_meaning.proofs.Lines.{mount-up, only-mount}
 use Rattle.cfs_meaning.proofs.ShownJobs.{AtWork, apply-shown}
 use Rattle.cfs_meaning.proofs.ShownFiles.{asked-shown, event-shown, file-shown}
+use Rattle.cfs_meaning.proofs.ShownParts.{Keeps, any-give, any-known, any-look, any-refuse, keep-phase, keep-told, keep-up, moved-shown, same-shown}
+use Rattle.cfs_meaning.proofs.ShownReads.{ReadsOpen, read-line, serve-line, sync-line}
 use Rattle.cfs_meaning.proofs.Total.{IfEnds}
-
--- the part keeps a world shown, however it ends
-abbrev Keeps : {A : Type 0} → Way A → Type 0
-Keeps way = Leaves IsShown (λ a. IsShown) IsShown way
-
--- what follows a look at the world, where it does not matter
-any-look : {A : Type 0} {next : World → Way A} → ((x : World) → Keeps (next x)) →
-    Keeps (Now >>= next)
-any-look more =
-    leave-look (λ x.
-    leave-weaker {P = IsShown} (λ w holds. holds.1) (λ a w q. q) (λ w e. e) (more x))
-
-any-known : {A : Type 0} (option : Option A) (answer : Printed) →
-    Keeps (known option answer)
-any-known option answer =
-    leave-weaker {P = IsShown} (λ w holds. holds) (λ a w q. q.1) (λ w e. e)
-    (leave-known option answer (λ w holds. holds))
-
-any-refuse : (test : Bool) (answer : Printed) →
-    Keeps (refuse_if test answer)
-any-refuse test answer =
-    leave-weaker {P = IsShown} (λ w holds. holds) (λ a w q. q.1) (λ w e. e)
-    (leave-refuse test answer (λ w holds. holds))
-
-any-give : {A : Type 0} {a : A} → Keeps (give a)
-any-give = leave-give (λ w holds. holds)
-
-keep-phase : (phase : Phase) {way : Way Printed} → Keeps way → Keeps (while_up phase way)
-keep-phase Up one = one
-keep-phase Down one = leave-end (λ w holds. holds)
-keep-phase Failed one = leave-end (λ w holds. holds)
-
-keep-up : {way : Way Printed} → Keeps way → Keeps (up way)
-keep-up one = leave-then (any-look (λ x. keep-phase x.phase one)) (λ answer. any-give)
-
-keep-told : {way : Way Printed} → Keeps way → Keeps (told way)
-keep-told one = leave-then one (λ answer. any-give)
-
--- ---- changes of neither devices nor files
-
-same-shown : (old new : World) → new.drive ≡ old.drive → new.files ≡ old.files →
-    new.names ≡ old.names → IsShown old → IsShown new
-same-shown old new drive files names shown =
-    subst (λ n. IsShown (record new { names = n })) (sym names)
-    (subst (λ f. IsShown (record new { names = old.names; files = f })) (sym files)
-    (subst (λ d. IsShown (record new { names = old.names; files = old.files; drive = d }))
-    (sym drive) (record {
-      files = shown.files;
-      apart = shown.apart;
-      placed = shown.placed;
-      even = shown.even;
-      tree = shown.tree;
-    })))
-
-moved-shown : (option : Option Descriptor) (c to : ℕ) (world : World) → IsShown world →
-    IsShown (moved_by option c to world)
-moved-shown None c to world shown = shown
-moved-shown (Some d) c to world shown = unless-off (has_no_power world.drive)
-  where
-    unless-off : (off : Bool) →
-        IsShown (if off then world else with_descriptor c (at_position to d) world)
-    unless-off true = shown
-    unless-off false = same-shown world _ refl refl refl shown
 
 keep-seek : (d : Descriptor) (c : ℕ) (seek : Seek) → Keeps (lseek d c seek)
 keep-seek d c seek =
@@ -217,13 +157,17 @@ apply-shown-line line ino place =
 
 -- ---- lines
 
--- one step of a job
-abbrev is_apply : Form → Bool
-is_apply (forms.Apply ino place) = true
-is_apply other = false
+-- the lines that ask more of the world: one step of a job, and the lines that read
+abbrev asks_more : Form → Bool
+asks_more (forms.Apply ino place) = true
+asks_more (forms.Read c fd n) = true
+asks_more (forms.Pread c fd offset n) = true
+asks_more (forms.Fsync c fd) = true
+asks_more (forms.Serve c fd place) = true
+asks_more other = false
 
 keep-line : (line : ℕ) (form : Form) → keeps_shown form ≡ true → is_mount form ≡ false →
-    is_apply form ≡ false → Keeps (does line form)
+    asks_more form ≡ false → Keeps (does line form)
 keep-line line (forms.Caller c uid gid) keeps other more =
     leave-then (leave-changes (λ w shown. same-shown w _ refl refl refl shown)) (λ u. any-give)
 keep-line line (forms.Lseek c fd seek) keeps other more =
@@ -237,6 +181,10 @@ keep-line line (forms.Stop n) keeps other more =
     keep-told (leave-then (leave-changes (λ w shown. stopped-shown n w shown)) (λ u. any-give))
 keep-line line forms.Mount keeps other more = absurd (cc)
 keep-line line (forms.Apply ino place) keeps other more = absurd (cc)
+keep-line line (forms.Read c fd n) keeps other more = absurd (cc)
+keep-line line (forms.Pread c fd offset n) keeps other more = absurd (cc)
+keep-line line (forms.Fsync c fd) keeps other more = absurd (cc)
+keep-line line (forms.Serve c fd place) keeps other more = absurd (cc)
 keep-line line (forms.Fail device k) keeps other more = keep-told (keep-plan device true k)
 keep-line line (forms.FailRead device k) keeps other more = keep-told (keep-plan device false k)
 keep-line line form keeps other more = absurd (cc)
@@ -246,26 +194,35 @@ shown-ends : (end : Result (Option Printed) Halt) (world : World) →
 shown-ends (Ok answer) world holds = holds
 shown-ends (Err halt) world holds = holds
 
--- of a line that makes a step of a job
-apply-line : (line : ℕ) (form : Form) (old : World) (end : Result (Option Printed) Halt)
-    (new : World) → is_apply form ≡ true → IsOfFile old form → AreReached old → IsShown old →
+more-line : (line : ℕ) (form : Form) (old : World) (end : Result (Option Printed) Halt)
+    (new : World) → asks_more form ≡ true → Suits old form → AreReached old → IsShown old →
     does line form old end new → IsShown new
-apply-line line (forms.Apply ino place) old end new is of reached shown way =
+more-line line (forms.Apply ino place) old end new is of reached shown way =
     shown-ends end new ((apply-shown-line line ino place).by old end new
     (record { shown = shown; reached = reached; goes_on = of }) way)
-apply-line line form old end new is of reached shown way = absurd (cc)
+more-line line (forms.Read c fd n) old end new is of reached shown way =
+    shown-ends end new ((read-line c fd line (λ d. requests.Read d.position (most_read n)) true).by
+    old end new (shown, of) way)
+more-line line (forms.Pread c fd offset n) old end new is of reached shown way =
+    shown-ends end new ((read-line c fd line (λ d. requests.Read offset (most_read n)) false).by old
+    end new (shown, of) way)
+more-line line (forms.Fsync c fd) old end new is of reached shown way =
+    shown-ends end new ((sync-line c fd line requests.Sync).by old end new (shown, of) way)
+more-line line (forms.Serve c fd place) old end new is of reached shown way =
+    shown-ends end new ((serve-line c fd place).by old end new (shown, of) way)
+more-line line form old end new is of reached shown way = absurd (cc)
 
 pub lines-keep-shown : LinesKeepShown
 lines-keep-shown old new line out mounted keeps of reached shown (steps_so end way) =
-    by-kind (is_mount line.form) refl (is_apply line.form) refl
+    by-kind (is_mount line.form) refl (asks_more line.form) refl
   where
     by-kind : (mounts : Bool) → is_mount line.form ≡ mounts → (applies : Bool) →
-        is_apply line.form ≡ applies → IsShown new
+        asks_more line.form ≡ applies → IsShown new
     by-kind false is false more =
         shown-ends end new
         ((keep-line line.number line.form keeps is more).by old end new shown way)
     by-kind false is true more =
-        apply-line line.number line.form old end new more of reached shown way
+        more-line line.number line.form old end new more of reached shown way
     by-kind true is applies more =
         subst IsShown (sym (mount-up line.number old end new mounted
         (subst (λ f. does line.number f old end new) (only-mount line.form is) way)).1) shown

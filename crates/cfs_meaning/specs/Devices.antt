@@ -1,9 +1,10 @@
 -- When the devices of a store show a world: each image of them fits it.
 use Rattle.std.specs.Prelude.{◌≡◌, ◌≢◌, ℕ, ◌+◌, ◌<◌, Bool, true, false, Some, List, [], ◌∷◌, length, map, take}
-use Rattle.std.specs.List.{All, Contains}
+use Rattle.std.specs.List.{All, Contains, list_any}
 use Rattle.std.specs.Option.{option_map}
 use Rattle.cfs_file.specs.declared.sizes.TheConstants.{BLOCK_LEN}
 use Rattle.cfs_core.specs.declared.inode_core.Core.{Core}
+use Rattle.cfs_core.specs.Words.{is_live}
 use Rattle.cfs_pmem.specs.Images.{IsImage, Seen, WordStep, words_kept, words_of}
 use Rattle.cfs_pmem.specs.Objects.{IsEachImage}
 use Rattle.cfs_block.specs.BlockImages.{BlockStep, content_kept, content_of}
@@ -18,9 +19,9 @@ use Rattle.cfs_print.specs.declared.out_line.OutLine.{OutLine}
 use Rattle.cfs_meaning.specs.Drive.{Drive, block_at, region_at}
 use Rattle.cfs_meaning.specs.NameSteps.{tree_of}
 use Rattle.cfs_meaning.specs.Steps.{size_word}
-use Rattle.cfs_meaning.specs.World.{File, Up, World, block_of, devices_of, file_in, held_at}
-use Rattle.cfs_meaning.specs.Laws.{AreReached}
-use Rattle.cfs_meaning.specs.Play.{Step, crashed}
+use Rattle.cfs_meaning.specs.World.{Descriptor, File, Up, World, block_of, core_in, descriptor_in, devices_of, file_in, held_at}
+use Rattle.cfs_meaning.specs.Laws.{AreReached, HaveNoMount}
+use Rattle.cfs_meaning.specs.Play.{Run, Step, crashed}
 
 -- P holds of each file
 abbrev pub OfEachFile : (File → Type 0) → List File → Type 0
@@ -107,7 +108,11 @@ ShownFilesRecover =
 abbrev pub keeps_shown : Form → Bool
 keeps_shown (forms.Caller c uid gid) = true
 keeps_shown (forms.Lseek c fd seek) = true
+keeps_shown (forms.Read c fd n) = true
+keeps_shown (forms.Pread c fd offset n) = true
+keeps_shown (forms.Fsync c fd) = true
 keeps_shown (forms.Post c fd offset n) = true
+keeps_shown (forms.Serve c fd place) = true
 keeps_shown (forms.Dispatch ino place) = true
 keeps_shown (forms.Apply ino place) = true
 keeps_shown (forms.Queue c fd) = true
@@ -117,15 +122,29 @@ keeps_shown (forms.Fail device k) = true
 keeps_shown (forms.FailRead device k) = true
 keeps_shown other = false
 
--- a step is made of a job of a file whose core has not ended
-abbrev pub IsOfFile : World → Form → Type 0
-IsOfFile world (forms.Apply ino place) = (file_in world ino).ended ≡ false
-IsOfFile world other = Unit {0}
+-- no entry waits or is out
+abbrev pub NothingLive : Core → Type 0
+NothingLive core = list_any (λ t. is_live t.state) core.tracks ≡ false
+
+-- nothing of the file that is open there is live
+abbrev pub IsRead : ℕ → ℕ → World → Type 0
+IsRead c fd world =
+    (d : Descriptor) → descriptor_in world c fd ≡ Some d → NothingLive (core_in world d.grant.ino)
+
+-- A step is made of a job of a file whose core has not ended, and what is read has nothing in its
+-- way.
+abbrev pub Suits : World → Form → Type 0
+Suits world (forms.Apply ino place) = (file_in world ino).ended ≡ false
+Suits world (forms.Read c fd n) = IsRead c fd world
+Suits world (forms.Pread c fd offset n) = IsRead c fd world
+Suits world (forms.Fsync c fd) = IsRead c fd world
+Suits world (forms.Serve c fd place) = IsRead c fd world
+Suits world other = Unit {0}
 
 abbrev pub LinesKeepShown : Type 0
 LinesKeepShown =
     (old new : World) (line : Line) (out : List OutLine) → old.phase ≡ Up →
-    keeps_shown line.form ≡ true → IsOfFile old line.form → AreReached old → IsShown old →
+    keeps_shown line.form ≡ true → Suits old line.form → AreReached old → IsShown old →
     Step line old out new → IsShown new
 
 -- ---- crashes
@@ -136,9 +155,21 @@ CrashesLeaveLess =
     (k : ℕ) (drive : Drive) (f : File) → IsEven drive → IsRecovered drive f →
     IsRecovered (crashed k drive) f
 
--- So behind a crash of a world that is shown each file recovers what it would have before.
+-- whatever a crash leaves recovers the files and the tree
+pub record IsSaved (world : World) : Type 0 where
+  pub files : OfEachFile (IsRecovered world.drive) world.files
+  pub tree : IsTreeShown world
+  pub even : IsEven world.drive
+
+-- Behind a crash of a world that is shown it does,
 abbrev pub CrashesRecover : Type 0
 CrashesRecover =
     (old new : World) (line : Line) (k : ℕ) (out : List OutLine) → line.form ≡ forms.Crash k →
     AreReached old → IsShown old → Step line old out new →
-    OfEachFile (IsRecovered new.drive) new.files
+    IsSaved new
+
+-- and so it does until the next mount, whatever is tried, and crashes again.
+abbrev pub CrashedRunsRecover : Type 0
+CrashedRunsRecover =
+    (old new : World) (lines : List Line) (outs : List OutLine) → HaveNoMount lines →
+    Run old lines outs new → (old.phase ≡ Up → ⊥) → IsSaved old → IsSaved new

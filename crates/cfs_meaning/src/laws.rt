@@ -1,7 +1,7 @@
 //! What holds of every run, as contracts of functions that do nothing.
 
 ghost use Rattle.cfs_meaning.specs.Answered.{LinesHaveAnswers};
-ghost use Rattle.cfs_meaning.specs.Devices.{CrashesLeaveLess, CrashesRecover, LinesKeepShown, ShownFilesRecover};
+ghost use Rattle.cfs_meaning.specs.Devices.{CrashedRunsRecover, CrashesLeaveLess, CrashesRecover, LinesKeepShown, ShownFilesRecover};
 ghost use Rattle.cfs_meaning.specs.Granted.{OpenFilesAreGranted};
 ghost use Rattle.cfs_meaning.specs.Laws.{AnswersAreOnly, CalmRunsAnswer, ChangesMakeSteps, CoresStayReached, FilesAreGood, LogsFollowLines, NamesStayLegal, ReadsAreRight, RunsKeepCores};
 
@@ -70,7 +70,8 @@ pub fn shown_files_recover()
     ensures { ShownFilesRecover }
 {}
 
-/// Lines without a step of a device keep a world shown, and so do the steps of a job.
+/// Lines without a step of a device keep a world shown, and so do lines that read with nothing in
+/// their way, and the steps of a job.
 pub fn lines_keep_shown()
     ensures { LinesKeepShown }
 {}
@@ -81,7 +82,13 @@ pub fn crashes_leave_less()
     ensures { CrashesLeaveLess }
 {}
 
-/// Behind a crash of a world that its devices show, each file recovers what it would have before.
+/// Behind a crash of a world that its devices show, each file and the tree recover what they would
+/// have before.
 pub fn crashes_recover()
     ensures { CrashesRecover }
+{}
+
+/// And so they do until the next mount, whatever lines are tried, and crashes among them.
+pub fn crashed_runs_recover()
+    ensures { CrashedRunsRecover }
 {}

@@ -1,0 +1,92 @@
+-- Parts of lines that keep a world shown by its devices.
+use Rattle.std.proofs.Common.{◌≡◌, ℕ, ◌+◌, Bool, true, false, not, Option, Some, None, List, ◌∷◌, length, refl, sym, ap, subst, if◌then◌else◌}
+use Rattle.std.specs.Prelude.{Result, Ok, Err}
+use Rattle.cfs_file.specs.declared.entry.Entry.{Entry}
+use Rattle.cfs_file.specs.declared.request.Request.{Request}
+use Rattle.cfs_core.specs.declared.event.Event.TheVariants as events
+use Rattle.cfs_medium.proofs.QuietEvents.{quiet-events-show}
+use Rattle.cfs_medium.proofs.ReadEvents.{reads-may-come}
+use Rattle.cfs_pmem.specs.declared.trace.Asked.{Asked}
+use Rattle.cfs_pmem.specs.declared.trace.Asked.TheVariants.{Stopped}
+use Rattle.cfs_print.specs.declared.printed.Printed.{Printed}
+use Rattle.cfs_script.specs.declared.form.Form.{Form}
+use Rattle.cfs_script.specs.declared.form.Form.TheVariants as forms
+use Rattle.cfs_words.specs.declared.device.Device.{Device}
+use Rattle.cfs_words.specs.declared.seek.Seek.{Seek}
+use Rattle.cfs_meaning.specs.Drive.{Drive}
+use Rattle.cfs_meaning.specs.World.{Descriptor, Down, Failed, Phase, Up, World, core_in, descriptor_in, file_in, with_descriptor, with_file}
+use Rattle.cfs_meaning.specs.Inode.{Absent, Behind, Ready, Verdict, admit_read, dispatch, verdict, with_passed}
+use Rattle.cfs_meaning.specs.Files.{at_position, has_no_power, list_queue, lseek, move_to, moved_by, opened, opened_to_read, post}
+use Rattle.cfs_meaning.specs.Workers.{apply_line, dispatch_by, dispatch_line, there}
+use Rattle.cfs_meaning.specs.Devices.{IsShown}
+use Rattle.cfs_meaning.specs.Laws.{AreReached, is_mount}
+use Rattle.cfs_meaning.specs.Play.{does, mount_line, plan, planned, steps_so, stopped, told, up, while_up}
+use Rattle.cfs_meaning.specs.Ways.{Halt, Now, Way, give, known, now, refuse_if, ◌>>=◌}
+use Rattle.cfs_meaning.proofs.Hoare.{Leaves, leave-changes, leave-end, leave-event, leave-give, leave-known, leave-look, leave-refuse, leave-then, leave-weaker}
+use Rattle.cfs_meaning.proofs.Lines.{mount-up, only-mount}
+use Rattle.cfs_meaning.proofs.ShownJobs.{AtWork, apply-shown}
+use Rattle.cfs_meaning.proofs.ShownFiles.{asked-shown, event-shown, file-shown}
+use Rattle.cfs_meaning.proofs.Total.{IfEnds}
+
+-- the part keeps a world shown, however it ends
+abbrev pub Keeps : {A : Type 0} → Way A → Type 0
+Keeps way = Leaves IsShown (λ a. IsShown) IsShown way
+
+-- what follows a look at the world, where it does not matter
+pub any-look : {A : Type 0} {next : World → Way A} → ((x : World) → Keeps (next x)) →
+    Keeps (Now >>= next)
+any-look more =
+    leave-look (λ x.
+    leave-weaker {P = IsShown} (λ w holds. holds.1) (λ a w q. q) (λ w e. e) (more x))
+
+pub any-known : {A : Type 0} (option : Option A) (answer : Printed) →
+    Keeps (known option answer)
+any-known option answer =
+    leave-weaker {P = IsShown} (λ w holds. holds) (λ a w q. q.1) (λ w e. e)
+    (leave-known option answer (λ w holds. holds))
+
+pub any-refuse : (test : Bool) (answer : Printed) →
+    Keeps (refuse_if test answer)
+any-refuse test answer =
+    leave-weaker {P = IsShown} (λ w holds. holds) (λ a w q. q.1) (λ w e. e)
+    (leave-refuse test answer (λ w holds. holds))
+
+pub any-give : {A : Type 0} {a : A} → Keeps (give a)
+any-give = leave-give (λ w holds. holds)
+
+pub keep-phase : (phase : Phase) {way : Way Printed} → Keeps way → Keeps (while_up phase way)
+keep-phase Up one = one
+keep-phase Down one = leave-end (λ w holds. holds)
+keep-phase Failed one = leave-end (λ w holds. holds)
+
+pub keep-up : {way : Way Printed} → Keeps way → Keeps (up way)
+keep-up one = leave-then (any-look (λ x. keep-phase x.phase one)) (λ answer. any-give)
+
+pub keep-told : {way : Way Printed} → Keeps way → Keeps (told way)
+keep-told one = leave-then one (λ answer. any-give)
+
+-- ---- changes of neither devices nor files
+
+pub same-shown : (old new : World) → new.drive ≡ old.drive → new.files ≡ old.files →
+    new.names ≡ old.names → IsShown old → IsShown new
+same-shown old new drive files names shown =
+    subst (λ n. IsShown (record new { names = n })) (sym names)
+    (subst (λ f. IsShown (record new { names = old.names; files = f })) (sym files)
+    (subst (λ d. IsShown (record new { names = old.names; files = old.files; drive = d }))
+    (sym drive) (record {
+      files = shown.files;
+      apart = shown.apart;
+      placed = shown.placed;
+      even = shown.even;
+      tree = shown.tree;
+    })))
+
+pub moved-shown : (option : Option Descriptor) (c to : ℕ) (world : World) → IsShown world →
+    IsShown (moved_by option c to world)
+moved-shown None c to world shown = shown
+moved-shown (Some d) c to world shown = unless-off (has_no_power world.drive)
+  where
+    unless-off : (off : Bool) →
+        IsShown (if off then world else with_descriptor c (at_position to d) world)
+    unless-off true = shown
+    unless-off false = same-shown world _ refl refl refl shown
