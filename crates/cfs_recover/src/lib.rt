@@ -8,5 +8,5 @@
 mod blocks;
 mod piece;
 
-pub use blocks::{flush_block, write_block};
+pub use blocks::{flush_block, flush_pieces, write_block, write_pieces};
 pub use piece::Piece;
