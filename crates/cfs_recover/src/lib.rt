@@ -7,6 +7,8 @@
 
 mod blocks;
 mod piece;
+mod words;
 
 pub use blocks::{flush_block, flush_pieces, write_block, write_pieces};
 pub use piece::Piece;
+pub use words::{close_gate, set_size};
