@@ -1,1 +1,2 @@
 pub mod BlockCalls
+pub mod Held
