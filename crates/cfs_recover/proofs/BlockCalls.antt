@@ -1,6 +1,6 @@
 -- One call on one of the blocks.
-use Rattle.std.proofs.Common.{Bool, ℕ, zero, suc, ◌+◌, ◌<◌, ◌≤◌, ◌≡◌, ◌∙◌, Result, Ok, Err, OnOk, OnErr, List, [], ◌∷◌, length, map, get_or, set, inl, inr, refl, sym, ap, subst, arith}
-use Rattle.std.proofs.lemmas.List.{get_or-map, get_or-set_same, length-map, length-set, map-set, set-get_or, set-set}
+use Rattle.std.proofs.Common.{Bool, ℕ, zero, suc, ◌+◌, ◌-◌, ◌<◌, ◌≤◌, ◌≡◌, ◌∙◌, Result, Ok, Err, OnOk, OnErr, List, [], ◌∷◌, ◌++◌, take, drop, length, map, get_or, set, inl, inr, refl, sym, ap, subst, arith}
+use Rattle.std.proofs.lemmas.List.{get_or-map, get_or-set_same, length-drop, length-map, length-take-le, take_more, map-set, set-get_or, set-set}
 use Rattle.cfs_file.specs.declared.request.Request.{Request}
 use Rattle.cfs_pmem.specs.declared.trace.Asked.{Asked}
 use Rattle.cfs_pmem.specs.AllMoments.{AreDistinct}
@@ -9,7 +9,7 @@ use Rattle.cfs_pmem.specs.Faults.{HasCause}
 use Rattle.cfs_pmem.specs.Images.{Seen, devices_of}
 use Rattle.cfs_pmem.specs.Moments.{Moments}
 use Rattle.cfs_pmem.specs.Objects.{IsEachImage, IsImageBut, MomentsOf, all_devices, seen_at}
-use Rattle.cfs_pmem.proofs.AllMomentLemmas.{all_weaker}
+use Rattle.cfs_pmem.proofs.AllMomentLemmas.{all_after, all_at_end, all_weaker}
 use Rattle.cfs_pmem.proofs.MomentLemmas.{begun, extended}
 use Rattle.cfs_pmem.proofs.ObjectLemmas.{map-see-set, one_of, seen_at-map}
 use Rattle.cfs_block.specs.BlockImages.{AllBlockImages, BlockStep, Content, DiffersWithin, IsBlockImage, IsRangedFrom, WriteFails, content_of, kept, unflushed, wrote}
@@ -20,7 +20,8 @@ use Rattle.cfs_medium.specs.Depicts.{content_at}
 use Rattle.cfs_home.specs.Calls.{IsPiece}
 use Rattle.cfs_home.specs.Disks.{BlocksBeside}
 use Rattle.cfs_home.proofs.Calls.{but-has, but-other, but-within, pieces-beside}
-use Rattle.cfs_recover.specs.Pieces.{LeavesBeside, with_flush, with_write}
+use Rattle.cfs_recover.specs.Pieces.{LeavesBeside, LiesWithin, bytes_of, with_flush, with_flushes, with_write, with_writes}
+use Rattle.cfs_recover.specs.declared.piece.Piece.{Piece}
 
 -- ---- lists with one block changed
 
@@ -240,3 +241,72 @@ flush-beside {X} {asked_old} {asked_new} see xs at d y less distinct moments ino
     (one-block see xs at d y less distinct
     (subst (λ (old : Seen BlockStep). Moments IsBlockImage (IsBlockImage old.history) asked_old
     (see (get_or xs at d)) asked_new (see y)) (sym (seen_at-map see xs at d less)) moments))
+
+-- ---- call after call
+
+pub leaves-after : {asked_old asked_mid asked_new : List Asked}
+    {olds mids news : List (Seen BlockStep)} (ino : ℕ) (request : Request)
+    (first : List Content) → LeavesBeside ino request first asked_old olds asked_mid mids →
+    LeavesBeside ino request first asked_mid mids asked_new news →
+    LeavesBeside ino request first asked_old olds asked_new news
+leaves-after ino request first one two are =
+    let before = one are in all_after before (two (all_at_end before))
+
+pub writes-more : (pieces : List Piece) (piece : Piece) (bytes : List ℕ)
+    (blocks : List (Seen BlockStep)) →
+    with_writes (pieces ++ piece ∷ []) bytes blocks
+    ≡ with_write piece.at piece.from (bytes_of piece bytes) (with_writes pieces bytes blocks)
+writes-more [] piece bytes blocks = refl
+writes-more (first ∷ pieces) piece bytes blocks =
+    writes-more pieces piece bytes
+    (with_write first.at first.from (bytes_of first bytes) blocks)
+
+pub flushes-more : (pieces : List Piece) (piece : Piece) (blocks : List (Seen BlockStep)) →
+    with_flushes (pieces ++ piece ∷ []) blocks ≡ with_flush piece.at (with_flushes pieces blocks)
+flushes-more [] piece blocks = refl
+flushes-more (first ∷ pieces) piece blocks = flushes-more pieces piece (with_flush first.at blocks)
+
+-- one piece more
+pub written-more : (pieces : List Piece) (i : ℕ) (d : Piece) (bytes : List ℕ)
+    (begun_ mid now : List (Seen BlockStep)) → i < length pieces →
+    mid ≡ with_writes (take i pieces) bytes begun_ →
+    now ≡ with_write (get_or pieces i d).at (get_or pieces i d).from
+    (bytes_of (get_or pieces i d) bytes) mid →
+    now ≡ with_writes (take (i + 1) pieces) bytes begun_
+written-more pieces i d bytes begun_ mid now less before is =
+    is
+    ∙ (ap (with_write (get_or pieces i d).at (get_or pieces i d).from
+    (bytes_of (get_or pieces i d) bytes)) before
+    ∙ (sym (writes-more (take i pieces) (get_or pieces i d) bytes begun_)
+    ∙ sym (ap (λ (ps : List Piece). with_writes ps bytes begun_) (take_more pieces i d less))))
+
+pub flushed-more : (pieces : List Piece) (i : ℕ) (d : Piece)
+    (begun_ mid now : List (Seen BlockStep)) → i < length pieces →
+    mid ≡ with_flushes (take i pieces) begun_ →
+    now ≡ with_flush (get_or pieces i d).at mid →
+    now ≡ with_flushes (take (i + 1) pieces) begun_
+flushed-more pieces i d begun_ mid now less before is =
+    is
+    ∙ (ap (with_flush (get_or pieces i d).at) before
+    ∙ (sym (flushes-more (take i pieces) (get_or pieces i d) begun_)
+    ∙ sym (ap (λ (ps : List Piece). with_flushes ps begun_) (take_more pieces i d less))))
+
+pub same-cause : {E : Type 0} (counts now : List ℕ) → now ≡ counts →
+    HaveCause {T = Unit {0}} {E = E} counts now (Ok tt)
+same-cause counts now same = record {
+  later = subst (λ (ns : List ℕ). NoneFell counts ns) (sym same) (none-fell counts);
+  failed = tt;
+  passed = same;
+}
+
+-- a piece has as many bytes as the request brings for it
+pub piece-long : (ino : ℕ) (request : Request) (first : List Content) (blocks : ℕ) (piece : Piece)
+    (bytes : List ℕ) → LiesWithin blocks (length bytes) piece →
+    IsPiece ino request first piece.at piece.from (piece.end - piece.start) →
+    IsPiece ino request first piece.at piece.from (length (bytes_of piece bytes))
+piece-long ino request first blocks piece bytes within is =
+    subst (λ (n : ℕ). IsPiece ino request first piece.at piece.from n) (sym long) is
+  where
+    long : length (bytes_of piece bytes) ≡ piece.end - piece.start
+    long = length-take-le (piece.end - piece.start) (drop piece.start bytes)
+        (omega (arith, within.start, within.«end», length-drop piece.start bytes))

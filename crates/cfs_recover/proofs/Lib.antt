@@ -1,1 +1,3 @@
 pub mod BlockCalls
+pub mod Held
+pub mod Sure

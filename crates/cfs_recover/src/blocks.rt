@@ -57,3 +57,56 @@ pub fn flush_block<B: Block, P: Power>(
 {
     blocks[at].flush(power)
 }
+
+/// Writes the pieces of a request, each into its block, in their order.
+pub fn write_pieces<B: Block, P: Power>(
+    blocks: &mut [B],
+    power: &mut P,
+    pieces: &[Piece],
+    bytes: &[u8],
+) -> Result<(), DeviceFault>
+    requires within { (k : ℕ) (d : Piece) → k < length pieces.now →
+        LiesWithin (length blocks.old) (length bytes.now) (get_or pieces.now k d) }
+    requires distinct { AreDistinct (all_devices (map B.seen blocks.old)) }
+    ensures ok { OnOk result (map B.seen blocks.new ≡
+        with_writes pieces.now bytes.now (map B.seen blocks.old)) }
+    ensures beside { (ino : ℕ) (request : Request) (first : List Content) →
+        ArePieces ino request first pieces.now →
+        LeavesBeside ino request first (P.asked power.old) (map B.seen blocks.old)
+        (P.asked power.new) (map B.seen blocks.new) }
+    ensures devices {
+        all_devices (map B.seen blocks.new) ≡ all_devices (map B.seen blocks.old) }
+    ensures numbers { map B.number blocks.new ≡ map B.number blocks.old }
+    ensures cause { HaveCause (map B.faults blocks.old) (map B.faults blocks.new) result }
+{
+    for piece in pieces {
+        let part = &bytes[piece.start..piece.end];
+        write_block(blocks, power, piece.at, piece.from, part)?;
+    }
+    Ok(())
+}
+
+/// Flushes the block of each piece, in their order.
+pub fn flush_pieces<B: Block, P: Power>(
+    blocks: &mut [B],
+    power: &mut P,
+    pieces: &[Piece],
+) -> Result<(), DeviceFault>
+    requires within { (k : ℕ) (d : Piece) → k < length pieces.now →
+        (get_or pieces.now k d).at < length blocks.old }
+    requires distinct { AreDistinct (all_devices (map B.seen blocks.old)) }
+    ensures ok { OnOk result
+        (map B.seen blocks.new ≡ with_flushes pieces.now (map B.seen blocks.old)) }
+    ensures beside { (ino : ℕ) (request : Request) (first : List Content) →
+        LeavesBeside ino request first (P.asked power.old) (map B.seen blocks.old)
+        (P.asked power.new) (map B.seen blocks.new) }
+    ensures devices {
+        all_devices (map B.seen blocks.new) ≡ all_devices (map B.seen blocks.old) }
+    ensures numbers { map B.number blocks.new ≡ map B.number blocks.old }
+    ensures cause { HaveCause (map B.faults blocks.old) (map B.faults blocks.new) result }
+{
+    for piece in pieces {
+        flush_block(blocks, power, piece.at)?;
+    }
+    Ok(())
+}

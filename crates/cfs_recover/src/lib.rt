@@ -6,7 +6,11 @@
 #![tactic(auto)]
 
 mod blocks;
+mod laws;
 mod piece;
+mod words;
 
-pub use blocks::{flush_block, write_block};
+pub use blocks::{flush_block, flush_pieces, write_block, write_pieces};
+pub use laws::{pieces_are_sure, pieces_hold, sure_blocks_are_of};
 pub use piece::Piece;
+pub use words::{close_gate, set_size};

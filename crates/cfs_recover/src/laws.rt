@@ -1,0 +1,18 @@
+//! What the calls come to, as contracts of functions that do nothing.
+ghost use Rattle.cfs_recover.specs.Held.{PiecesHold};
+ghost use Rattle.cfs_recover.specs.Sure.{PiecesAreSure, SureBlocksAreOf};
+
+/// Once the pieces of a request are written and flushed, its bytes stand in the blocks of the file.
+pub fn pieces_hold()
+    ensures { PiecesHold }
+{}
+
+/// Then a crash leaves each block as it reads, where it did so before.
+pub fn pieces_are_sure()
+    ensures { PiecesAreSure }
+{}
+
+/// So it leaves the blocks of one disk alone.
+pub fn sure_blocks_are_of()
+    ensures { SureBlocksAreOf }
+{}
