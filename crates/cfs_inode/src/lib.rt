@@ -3,18 +3,17 @@
 
 mod answers;
 mod covering;
+mod dispatch;
+mod dispatch_answer;
+mod finish;
+mod finish_answer;
+mod laws;
 mod mapped;
 mod mark;
 mod mark_answer;
 mod new;
 mod open;
 mod parts;
-mod dispatch;
-mod dispatch_answer;
-mod finish;
-mod finish_answer;
-mod laws;
-mod open;
 mod put_back;
 mod reading;
 mod reads;
@@ -28,10 +27,10 @@ mod trim;
 mod trim_answer;
 
 pub use answers::CloseAnswer;
-pub use mapped::Mapped;
-pub use mark_answer::MarkAnswer;
 pub use dispatch_answer::DispatchAnswer;
 pub use finish_answer::FinishAnswer;
 pub use laws::{jobs_are_out, standing_are_ready, taken_are_out};
+pub use mapped::Mapped;
+pub use mark_answer::MarkAnswer;
 pub use state::{InodeState, State};
 pub use trim_answer::TrimAnswer;
