@@ -36,7 +36,6 @@ impl<S: Drop, D: Drop, B: Drop> Tracker<S, D, B> {
         self.count
     }
 
-<<<<<<< HEAD
     /// The length of the file after all that was admitted.
     pub fn long(&self) -> u64
         ensures { result ≡ (view_of self.now).long }
@@ -44,10 +43,7 @@ impl<S: Drop, D: Drop, B: Drop> Tracker<S, D, B> {
         self.long
     }
 
-    /// Whether the file after the request is short enough.
-=======
     /// Whether the file after the request is short enough. Walks nothing.
->>>>>>> b18bd84383332041d8d3a2a4301495493047d0e8
     pub fn fits(&self, request: &Request) -> bool
         ensures { result ≡ nat_le (long_after (view_of self.now).long request.now) LONGEST_FILE }
     {

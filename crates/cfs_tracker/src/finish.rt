@@ -50,7 +50,6 @@ impl<S: Drop, D: Drop, B: Drop> Tracker<S, D, B> {
         }
     }
 
-<<<<<<< HEAD
     /// The positions of the entry at a place.
     pub fn span(&self, place: u64) -> Span
         ensures { result ≡ span_in (entry_at (view_of self.now).entries place) }
@@ -61,10 +60,7 @@ impl<S: Drop, D: Drop, B: Drop> Tracker<S, D, B> {
         }
     }
 
-    /// Whether the entry at a place is out with these blocks.
-=======
     /// Whether the entry at a place is out with these blocks. Walks the entries to the place.
->>>>>>> b18bd84383332041d8d3a2a4301495493047d0e8
     pub fn is_out(&self, place: u64, first: &Option<Tile<B>>, second: &Option<Tile<B>>) -> bool
         ensures { IsTrue result ↔ IsOut (view_of self.now) place first.now second.now }
     {
