@@ -18,4 +18,6 @@ pub mod Zeros
 pub mod Trimmings
 pub mod TrimTells
 pub mod Coverings
+pub mod Taggings
 pub mod CoverTells
+pub mod TagTells

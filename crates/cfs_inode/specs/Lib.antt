@@ -8,3 +8,4 @@ pub mod Jobs
 pub mod Marking
 pub mod Trims
 pub mod Covering
+pub mod Tagging

@@ -11,6 +11,7 @@ mod reads;
 mod settle;
 mod skip;
 mod state;
+mod tagging;
 mod trim;
 mod trim_answer;
 
