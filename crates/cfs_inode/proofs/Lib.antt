@@ -20,4 +20,9 @@ pub mod TrimTells
 pub mod Coverings
 pub mod Taggings
 pub mod CoverTells
+pub mod Offsets
 pub mod TagTells
+pub mod Mappings
+pub mod MapTells
+pub mod Placings
+pub mod Admittings

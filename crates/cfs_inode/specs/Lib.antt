@@ -9,3 +9,6 @@ pub mod Marking
 pub mod Trims
 pub mod Covering
 pub mod Tagging
+pub mod Mapping
+pub mod Placing
+pub mod Admitting

@@ -1,11 +1,15 @@
 //! The state of one inode with its devices.
 #![tactic(auto)]
 
+mod admit;
+mod admit_answer;
 mod answers;
 mod covering;
+mod mapping;
 mod mark;
 mod mark_answer;
 mod open;
+mod placing;
 mod reading;
 mod reads;
 mod settle;
@@ -15,6 +19,7 @@ mod tagging;
 mod trim;
 mod trim_answer;
 
+pub use admit_answer::AdmitAnswer;
 pub use answers::CloseAnswer;
 pub use mark_answer::MarkAnswer;
 pub use state::{InodeState, State};
