@@ -18,6 +18,7 @@ pub mod Zeros
 pub mod Trimmings
 pub mod TrimTells
 pub mod Coverings
+pub mod Taggings
 pub mod CoverTells
 pub mod News
 pub mod Works
@@ -29,3 +30,9 @@ pub mod PutBacks
 pub mod Sizings
 pub mod Finishings
 pub mod Knows
+pub mod Offsets
+pub mod TagTells
+pub mod Mappings
+pub mod MapTells
+pub mod Placings
+pub mod Admittings

@@ -79,7 +79,7 @@ state-unclosed words bytes state now mid place live is was =
 
 -- ---- the request in doubt
 
-doubt-told : {D E : Type 0} (tell : D → E) (doubt : Option (InDoubt D)) →
+pub doubt-told : {D E : Type 0} (tell : D → E) (doubt : Option (InDoubt D)) →
     doubt_slots (told_option (told_doubt tell) doubt) ≡ told_option tell (doubt_slots doubt)
 doubt-told tell None = refl
 doubt-told tell (Some doubt) = refl

@@ -13,3 +13,7 @@ pub mod Dispatching
 pub mod Backs
 pub mod Finishing
 pub mod Knows
+pub mod Tagging
+pub mod Mapping
+pub mod Placing
+pub mod Admitting

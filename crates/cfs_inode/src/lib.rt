@@ -1,6 +1,8 @@
 //! The state of one inode with its devices.
 #![tactic(auto)]
 
+mod admit;
+mod admit_answer;
 mod answers;
 mod covering;
 mod dispatch;
@@ -9,12 +11,14 @@ mod finish;
 mod finish_answer;
 mod laws;
 mod mapped;
+mod mapping;
 mod mark;
 mod mark_answer;
 mod new;
 mod open;
 mod parts;
 mod put_back;
+mod placing;
 mod reading;
 mod reads;
 mod settle;
@@ -23,9 +27,11 @@ mod size_answer;
 mod skip;
 mod state;
 mod telling;
+mod tagging;
 mod trim;
 mod trim_answer;
 
+pub use admit_answer::AdmitAnswer;
 pub use answers::CloseAnswer;
 pub use dispatch_answer::DispatchAnswer;
 pub use finish_answer::FinishAnswer;
