@@ -13,3 +13,6 @@ pub mod Dispatches
 pub mod States
 pub mod News
 pub mod Works
+pub mod Serving
+pub mod Copies
+pub mod ReadSteps

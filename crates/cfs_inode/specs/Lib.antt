@@ -6,3 +6,4 @@ pub mod Opening
 pub mod Reads
 pub mod Jobs
 pub mod New
+pub mod Serves

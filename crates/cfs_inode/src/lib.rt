@@ -8,11 +8,12 @@ mod open;
 mod parts;
 mod reading;
 mod reads;
+mod serve;
 mod settle;
 mod skip;
 mod state;
 mod telling;
 
-pub use answers::CloseAnswer;
+pub use answers::{CloseAnswer, ServeAnswer};
 pub use mapped::Mapped;
 pub use state::{InodeState, State};
