@@ -36,3 +36,6 @@ pub mod Mappings
 pub mod MapTells
 pub mod Placings
 pub mod Admittings
+pub mod Serving
+pub mod Copies
+pub mod ReadSteps

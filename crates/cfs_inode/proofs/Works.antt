@@ -12,12 +12,12 @@ use Rattle.cfs_tracker.specs.declared.doing.Doing.TheVariants as doings
 use Rattle.cfs_tracker.specs.declared.in_doubt.InDoubt.{InDoubt}
 use Rattle.cfs_tracker.specs.declared.listing.Listed.{Listed}
 use Rattle.cfs_tracker.specs.declared.pending.Pending.{Pending}
-use Rattle.cfs_tracker.specs.declared.step.Step.{Step}
+use Rattle.cfs_tracker.specs.declared.reading.Reading.{Reading}
 use Rattle.cfs_tracker.specs.Admit.{is_mapped}
 use Rattle.cfs_tracker.specs.Cells.{cell_at}
 use Rattle.cfs_tracker.specs.Dispatch.{ahead, first_cell, holder, is_ahead, is_waiting_doing, is_wanted_cell, lent_to, lesser, next_cell, read_place, is_read_ahead, second_cell, step_behind, step_of, step_of_blocks, step_with}
 use Rattle.cfs_tracker.specs.Listing.{is_listed, listed, listed_doubt, listing, state_in}
-use Rattle.cfs_tracker.specs.Reads.{is_live_doing, place_of}
+use Rattle.cfs_tracker.specs.Reads.{blocker_of, has_needed, is_before, is_live_doing, place_of}
 use Rattle.cfs_tracker.specs.View.{TrackerView}
 use Rattle.cfs_tracker.specs.Work.{is_noop_doing, is_to_do, next_work, read_waits, takes_now, work_of}
 use Rattle.cfs_tracker.specs.declared.work_item.Work.{Work}
@@ -174,6 +174,31 @@ pub step-told : {S D B T E C : Type 0} (live : S → T) (doubt : D → E) (block
 step-told live doubt block view entry =
     rw (waiting-told live entry.doing) (rw (ahead-told live doubt block view entry)
     (rw (behind-told live doubt block view entry (ahead view entry)) refl))
+
+-- ---- what a read waits for
+
+needed-told : {S T : Type 0} (tell : S → T) (span : Span) (d : Doing S) →
+    has_needed span (told_doing tell d) ≡ has_needed span d
+needed-told tell span (doings.Waiting slots) = refl
+needed-told tell span doings.Marking = refl
+needed-told tell span (doings.Out first second) = refl
+needed-told tell span (doings.Covered slots) = refl
+needed-told tell span doings.Closing = refl
+
+first-place-told : {S T : Type 0} (tell : S → T) (test : Pending S → Bool) (now : Pending T → Bool) →
+    ((e : Pending S) → now (told_entry tell e) ≡ test e) → (es : List (Pending S)) →
+    place_of (find now (map (told_entry tell) es)) ≡ place_of (find test es)
+first-place-told tell test now same es =
+    ap place_of (find-told tell test now same es) ∙ place-told tell (find test es)
+
+pub blocker-told : {S T : Type 0} (tell : S → T) (es : List (Pending S)) (read : Option Reading) →
+    blocker_of (map (told_entry tell) es) read ≡ blocker_of es read
+blocker-told tell es None = refl
+blocker-told tell es (Some read) =
+    rw (first-place-told tell (is_before read) (is_before read)
+    (λ e. rw (live-told tell e.doing) refl) es)
+    (rw (first-place-told tell (λ e. has_needed read.span e.doing)
+    (λ e. has_needed read.span e.doing) (λ e. needed-told tell read.span e.doing) es) refl)
 
 -- ---- what there is to do
 

@@ -17,3 +17,4 @@ pub mod Tagging
 pub mod Mapping
 pub mod Placing
 pub mod Admitting
+pub mod Serves

@@ -10,3 +10,14 @@ pub enum CloseAnswer<S> {
     /// A device fault: the gate may be open or closed.
     Failed,
 }
+
+/// What a call that is to answer a read tells.
+#[derive(Clone, Copy, Debug, PartialEq, Eq)]
+pub enum ServeAnswer {
+    /// It is answered.
+    Served,
+    /// It waits for the change at this place.
+    NotYet(u64),
+    /// A device fault: it is still pending.
+    Failed,
+}
