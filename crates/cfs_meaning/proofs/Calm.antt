@@ -12,14 +12,14 @@ use Rattle.cfs_print.specs.declared.out_line.OutLine.{OutLine}
 use Rattle.cfs_print.specs.declared.printed.Printed.{Printed}
 use Rattle.cfs_print.specs.declared.printed.Printed.TheVariants as answers
 use Rattle.cfs_meaning.specs.Drive.{Attempt, Block, Drive, Op, Word, asks, attempt, is_allowed, made, noted, refused}
-use Rattle.cfs_meaning.specs.World.{Down, Failed, Phase, Up, World}
+use Rattle.cfs_meaning.specs.World.{World}
 use Rattle.cfs_meaning.specs.Laws.{AreGiven, CalmRunsAnswer, IsCalm, IsGiven, is_calm}
-use Rattle.cfs_meaning.specs.Play.{Step, does, goes_on, mount, mount_line, printed, run_ends, steps_so, unless_off}
+use Rattle.cfs_meaning.specs.Play.{Step, does, goes_on, printed, run_ends, steps_so, unless_off}
 use Rattle.cfs_meaning.specs.Ways.{Fault, Halt, Says, Waits}
-use Rattle.cfs_meaning.proofs.Keeping.{IsSaid, Keeps, keep-give, keep-look, keep-say, keep-then}
+use Rattle.cfs_meaning.proofs.Keeping.{IsSaid, Keeps, keep-give, keep-then}
 use Rattle.cfs_meaning.proofs.Worlds.{EndsAs, NameLaw, WorldLaw, law_of, moves, requests_of}
 use Rattle.cfs_meaning.proofs.KeptLines.{IsGivenIfAny, is_plain, kept-plain}
-use Rattle.cfs_meaning.proofs.Lines.{kept-home}
+use Rattle.cfs_meaning.proofs.Lines.{Mounts, kept-mounting}
 
 -- ---- operations of a calm drive
 
@@ -96,19 +96,8 @@ calm-names line = record {
 
 -- ---- mounts
 
-kept-mount : (line : ℕ) → Keeps (law_of (calm_law line)).base IsGiven mount
-kept-mount line =
-    keep-look (λ w.
-    keep-then (record { means = moves (calm_law line).fact (λ here holds. holds) }) (λ u a.
-    keep-then (kept-home (law_of (calm_law line)).base) (λ u a.
-    keep-then (record { means = moves (calm_law line).fact (λ here holds. holds) }) (λ u a.
-    keep-give tt))))
-
-kept-phase : (line : ℕ) (phase : Phase) →
-    Keeps (law_of (calm_law line)).base IsGiven (mount_line phase)
-kept-phase line Up = keep-say tt
-kept-phase line Down = kept-mount line
-kept-phase line Failed = keep-say tt
+calm-mounts : (line : ℕ) → Mounts (calm_law line)
+calm-mounts line = record { fails = λ world holds. holds; leaves = λ world holds. holds }
 
 -- ---- lines
 
@@ -123,8 +112,7 @@ kept-rest line (forms.Crash k) calm rough =
           record { steady = refl; unplanned = refl });
     }) (λ u a. keep-give tt))
     (λ answer given. keep-give given)
-kept-rest line forms.Mount calm rough =
-    keep-then (keep-look (λ w. kept-phase line w.phase)) (λ answer given. keep-give given)
+kept-rest line forms.Mount calm rough = kept-mounting (calm_law line) (calm-mounts line)
 kept-rest line form calm rough = absurd (cc)
 
 kept-line : (line : ℕ) (form : Form) → is_calm form ≡ true →

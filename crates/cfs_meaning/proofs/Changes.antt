@@ -1,6 +1,6 @@
 -- The changes of a request make the tree of its step.
-use Rattle.std.proofs.Common.{◌≡◌, ℕ, ◌+◌, Bool, true, false, not, Option, Some, None, List, [], ◌∷◌, refl, sym, ap, ◌∙◌, cond, inl, inr, if◌then◌else◌}
-use Rattle.std.specs.Prelude.{Result, Ok, Err, ◌==◌, ◌&&◌, ◌||◌, nat_lt, set}
+use Rattle.std.proofs.Common.{◌≡◌, ℕ, ◌+◌, Bool, true, false, not, Option, Some, None, List, [], ◌∷◌, refl, sym, ap, ◌∙◌, inl, inr, if◌then◌else◌}
+use Rattle.std.specs.Prelude.{Result, Ok, Err, ◌==◌, ◌||◌, nat_lt, set}
 use Rattle.std.specs.List.{list_any}
 use Rattle.std.proofs.lemmas.Bool.{and_parts, eq-eqb, eqb-true}
 use Rattle.cfs_cred.specs.declared.credential.Credential.{Credential}
@@ -29,12 +29,12 @@ use Rattle.cfs_grants.specs.Grants.{free_queue, grant_at}
 use Rattle.cfs_requests.specs.declared.name_refusal.NameRefusal.{NameRefusal}
 use Rattle.cfs_requests.specs.declared.opening.Opening.{Opening}
 use Rattle.cfs_requests.specs.declared.opening.Opening.TheVariants.{Found, Made}
-use Rattle.cfs_requests.specs.Looks.{by_tree, makes, moves, opens, removes, unless_words, unlinks}
+use Rattle.cfs_requests.specs.Looks.{makes, moves, opens, removes, unless_words, unlinks}
 use Rattle.cfs_requests.specs.Opens.{found, found_when, has_access, made_or, opened, words_refusal}
-use Rattle.cfs_requests.specs.Steps.{NameAnswer, NameRequest, Names, Step, close_step, closes_queue, done, make_step, makes_directory, move_step, moves_node, open_step, opens_file, remove_step, removes_directory, unlinks_file}
+use Rattle.cfs_requests.specs.Steps.{NameAnswer, Step, close_step, closes_queue, done, make_step, makes_directory, move_step, moves_node, open_step, opens_file, remove_step, removes_directory, unlinks_file}
 use Rattle.cfs_words.specs.declared.flags.Flags.{Flags}
 use Rattle.cfs_meaning.specs.Laws.{ChangesMakeSteps}
-use Rattle.cfs_meaning.specs.NameSteps.{Order, changes_of, made_changes, moved_changes, opening_changes, removed_changes, stands, step_of, tree_of}
+use Rattle.cfs_meaning.specs.NameSteps.{Order, made_changes, moved_changes, opening_changes, removed_changes, stands}
 
 -- ---- a node that is made has the next number
 
@@ -50,15 +50,15 @@ new-next tree credential directory name kind mode (Some rec) =
     by-test (nat_lt tree.next 4294967296)
   where
     by-test : (b : Bool) → IsNext tree (if b then Ok (record {
-          ino = tree.next;
-          parent = directory.ino;
-          name = name;
-          kind = kind;
-          mode = mode;
-          uid = credential.uid;
-          gid = credential.gid;
-          rec = rec;
-        }) else Err TooManyFiles)
+      ino = tree.next;
+      parent = directory.ino;
+      name = name;
+      kind = kind;
+      mode = mode;
+      uid = credential.uid;
+      gid = credential.gid;
+      rec = rec;
+    }) else Err TooManyFiles)
     by-test true = refl
     by-test false = tt
 
@@ -340,7 +340,8 @@ closes-so : (order : Order) (c queue : ℕ) (row : Option Grant) (step : NameAns
 closes-so order c queue None step is = absurd (cc)
 closes-so order c queue (Some grant) step is = by-test (grant.caller == c) is
   where
-    by-test : (b : Bool) → (if b then Some (done, record order { grants = set order.grants queue None })
+    by-test : (b : Bool) →
+        (if b then Some (done, record order { grants = set order.grants queue None })
         else None) ≡ Some step → order.tree ≡ step.1.tree
     by-test true e = ap (tree_in order.tree) e
     by-test false e = absurd (cc)

@@ -1,7 +1,7 @@
 -- The grants of open descriptors stand.
 use Rattle.std.proofs.Common.{◌≡◌, ◌≢◌, ℕ, Bool, true, false, not, Option, Some, None, List, [], ◌∷◌, ◌++◌, map, filter, refl, sym, ap, ◌∙◌, subst, cond, if◌then◌else◌}
 use Rattle.std.specs.Prelude.{Result, Ok, Err, ◌==◌, set}
-use Rattle.std.proofs.lemmas.Bool.{eq-eqb, eqb-false, eqb-true, ne_eqb}
+use Rattle.std.proofs.lemmas.Bool.{eq-eqb, eqb-false, ne_eqb}
 use Rattle.cfs_dir.specs.declared.moved.Moved.{Moved}
 use Rattle.cfs_dir.specs.declared.node.Node.{Node}
 use Rattle.cfs_grants.specs.declared.grant.Grant.{Grant}
@@ -15,28 +15,25 @@ use Rattle.cfs_words.specs.declared.flags.Flags.{Flags}
 use Rattle.cfs_print.specs.declared.printed.Printed.{Printed}
 use Rattle.cfs_script.specs.declared.form.Form.{Form}
 use Rattle.cfs_script.specs.declared.form.Form.TheVariants as forms
-use Rattle.cfs_script.specs.declared.line.Line.{Line}
-use Rattle.cfs_print.specs.declared.out_line.OutLine.{OutLine}
 use Rattle.cfs_meaning.specs.Drive.{Drive}
 use Rattle.cfs_meaning.specs.Mounting.{mounted_names, mounted_world, queue_count}
 use Rattle.cfs_meaning.specs.NameSteps.{Order, closing, step_of}
 use Rattle.cfs_meaning.specs.World.{Caller, Descriptor, Down, Failed, Phase, Up, World, changes_own, descriptor_in, without_descriptors}
-use Rattle.cfs_meaning.specs.Names.{ask, ask_and_purge, log_step, open_with}
+use Rattle.cfs_meaning.specs.Names.{ask, ask_and_purge, open_with}
 use Rattle.cfs_meaning.specs.Files.{close, close_in, opened}
-use Rattle.cfs_meaning.specs.Laws.{IsGiven, is_mount}
+use Rattle.cfs_meaning.specs.Laws.{is_mount}
 use Rattle.cfs_meaning.specs.Granted.{AreGranted, IsGranted, OfEach, OfEachOpen, OpenFilesAreGranted}
-use Rattle.cfs_meaning.specs.Play.{Run, by, does, goes_on, mount, mount_line, run_ends, steps_so, up, while_up}
-use Rattle.cfs_meaning.specs.Play as play
-use Rattle.cfs_meaning.specs.Ways.{Changes, Halt, Now, Then, Way, changes, ends, follows, gives, halts, known, now, ◌>>=◌, ◌>>◌}
+use Rattle.cfs_meaning.specs.Play.{by, does, up, while_up}
+use Rattle.cfs_meaning.specs.Ways.{Changes, Halt, Then, Way, changes, ends, follows, gives, halts, known, now, ◌>>=◌, ◌>>◌}
 use Rattle.cfs_meaning.proofs.Keeping.{Any, IsQuiet, Keeps, keep-each, keep-give, keep-look, keep-now, keep-repeats, keep-say, keep-then, keep-when}
 use Rattle.cfs_meaning.proofs.KeptInode.{kept-drop, kept-settle}
 use Rattle.cfs_meaning.proofs.KeptNames.{kept-ask-purge}
 use Rattle.cfs_meaning.proofs.KeptFiles.{kept-collect, kept-lowest}
-use Rattle.cfs_meaning.proofs.KeptLines.{IsGivenIfAny, is_of_names, is_of_tree, is_plain, keeps_grants, kept-file, kept-tree, kept-up}
-use Rattle.cfs_meaning.proofs.Lines.{Powers, kept-home, kept-power, only-mount}
+use Rattle.cfs_meaning.proofs.KeptLines.{IsGivenIfAny, is_of_names, is_plain, keeps_grants, kept-file, kept-tree}
+use Rattle.cfs_meaning.proofs.Lines.{Mounts, Powers, kept-mounting, kept-power, kept-run, only-mount}
 use Rattle.cfs_meaning.proofs.Quiet.{opened-has, own-changed}
 use Rattle.cfs_meaning.proofs.Tables.{at-other, at-set, free-is}
-use Rattle.cfs_meaning.proofs.Worlds.{EndsAs, EndsIn, Fact, Holding, Logs, WorldLaw, ask-by, ask-ends, law_of, moves as stays}
+use Rattle.cfs_meaning.proofs.Worlds.{EndsAs, EndsIn, Logs, WorldLaw, ask-by, ask-ends, law_of, moves as stays}
 
 abbrev Table : Type 0
 Table = List (Option Grant)
@@ -52,9 +49,10 @@ all-maps : (P Q : ℕ → ℕ → Grant → Type 0) →
     ((c fd : ℕ) (grant : Grant) → P c fd grant → Q c fd grant) → (callers : List Caller) →
     OfEachOpen P callers → OfEachOpen Q callers
 all-maps P Q give [] all = tt
-all-maps P Q give (x ∷ callers) all =
-    (each-maps (P x.number) (Q x.number) (give x.number) x.descriptors all.0,
-    all-maps P Q give callers all.1)
+all-maps P Q give (x ∷ callers) all = (
+  each-maps (P x.number) (Q x.number) (give x.number) x.descriptors all.0,
+  all-maps P Q give callers all.1,
+)
 
 one-more : (P : ℕ → Grant → Type 0) (list : List Descriptor) (d : Descriptor) → OfEach P list →
     P d.fd d.grant → OfEach P (list ++ d ∷ [])
@@ -143,7 +141,11 @@ tree-logs line c request keeps rec step world is holds = (
 tree-asks : (line c : ℕ) (request : NameRequest) → keeps_grants request ≡ true →
     Keeps (law_of (granted_law line)).base Any (ask c line request)
 tree-asks line c request keeps =
-    record { means = record { by = ask-by (granted_law line) c request (tree-logs line c request keeps) } }
+    record {
+      means = record {
+        by = ask-by (granted_law line) c request (tree-logs line c request keeps);
+      };
+    }
 
 -- ---- open
 
@@ -427,9 +429,11 @@ close-log line c queue rec step world is holds = (
 )
 
 forget : (queue : ℕ) (world : World) → AreApart queue world → AreGranted world
-forget queue world holds =
-    (holds.0, all-maps (Apart world.names.now.grants holds.0 queue) _ (λ c fd grant h. h.0)
-    world.callers holds.1)
+forget queue world holds = (
+  holds.0,
+  all-maps (Apart world.names.now.grants holds.0 queue) _ (λ c fd grant h. h.0)
+      world.callers holds.1,
+)
 
 -- from a world where the descriptor is granted to one where all are
 record Turns (c : ℕ) (d : Descriptor) {A : Type 0} (way : Way A) : Type 0 where
@@ -458,10 +462,12 @@ close-tail line c d old end new holds (ends way) = elim way [ ]
 close-tail line c d old end new holds (follows changes rest) =
     forget d.grant.queue new
     ((kept-ask-purge (law_of (apart_law line d.grant.queue)) c (closing d.grant)
-    (record { means = record {
-      by = ask-by (apart_law line d.grant.queue) c (closing d.grant)
-          (close-log line c d.grant.queue);
-    } })).means.by (close_in c d.fd old) end new (closed-apart c d old holds) rest).1
+    (record {
+      means = record {
+        by = ask-by (apart_law line d.grant.queue) c (closing d.grant)
+            (close-log line c d.grant.queue);
+      };
+    })).means.by (close_in c d.fd old) end new (closed-apart c d old holds) rest).1
 
 close-turns : (line c : ℕ) (d : Descriptor) → Turns c d (close d c line)
 close-turns line c d =
@@ -474,7 +480,8 @@ close-turns line c d =
 
 known-stands : (c fd : ℕ) (answer : Printed) (option : Option Descriptor) (old : World)
     (end : Result Descriptor Halt) (new : World) → descriptor_in old c fd ≡ option →
-    AreGranted old → known option answer old end new → EndsIn (granted_law 0).fact (Stands c) end new
+    AreGranted old → known option answer old end new →
+    EndsIn (granted_law 0).fact (Stands c) end new
 known-stands c fd answer None old end new is holds halts = (tt, holds)
 known-stands c fd answer (Some d) old end new is holds gives = (
   holds.0,
@@ -500,9 +507,11 @@ any-ends line (Err halt) = tt
 holding : (line : ℕ) {A : Type 0} {way : Way A} → ((old : World) (end : Result A Halt)
     (new : World) → AreGranted old → way old end new → AreGranted new) →
     Keeps (law_of (granted_law line)).base Any way
-holding line kept = record { means = record {
-  by = λ old end new holds way. (any-ends line end, kept old end new holds way);
-} }
+holding line kept = record {
+  means = record {
+    by = λ old end new holds way. (any-ends line end, kept old end new holds way);
+  };
+}
 
 while-any : (line : ℕ) (phase : Phase) {way : Way Printed} →
     Keeps (law_of (granted_law line)).base Any way →
@@ -530,34 +539,31 @@ granted-names line form names =
 
 granted-powers : (line : ℕ) → Powers (law_of (granted_law line))
 granted-powers line = record {
-  joins = λ c uid gid. stays (granted_law line).fact (λ world holds. (holds.0,
-      one-joins (IsGranted world.names.now.grants holds.0) world.callers c _ holds.1));
+  joins = λ c uid gid. stays (granted_law line).fact (λ world holds. (
+    holds.0,
+    one-joins (IsGranted world.names.now.grants holds.0) world.callers c _ holds.1,
+  ));
   stops = λ n. stays (granted_law line).fact (λ world holds. holds);
   plans = λ device writing k. stays (granted_law line).fact (λ world holds. holds);
-  crashes = λ k. stays (granted_law line).fact (λ world holds. (holds.0,
-      none-open (IsGranted world.names.now.grants holds.0) world.callers));
+  crashes = λ k. stays (granted_law line).fact (λ world holds. (
+    holds.0,
+    none-open (IsGranted world.names.now.grants holds.0) world.callers,
+  ));
 }
 
 mounted-granted : (callers : List Caller) (drive : Drive) →
     AreGranted (mounted_world callers drive)
-mounted-granted callers drive =
-    ((λ q. 0), none-open (IsGranted (mounted_names (queue_count drive) drive).now.grants (λ q. 0))
-    callers)
+mounted-granted callers drive = (
+  (λ q. 0),
+  none-open (IsGranted (mounted_names (queue_count drive) drive).now.grants (λ q. 0))
+      callers,
+)
 
-granted-mount : (line : ℕ) → Keeps (law_of (granted_law line)).base IsGiven mount
-granted-mount line =
-    keep-look (λ w.
-    keep-then (record { means = stays (granted_law line).fact (λ here holds. holds) }) (λ u a.
-    keep-then (kept-home (law_of (granted_law line)).base) (λ u a.
-    keep-then (record { means = stays (granted_law line).fact (λ here holds.
-        mounted-granted here.callers here.drive) }) (λ u a.
-    keep-give tt))))
-
-granted-phase : (line : ℕ) (phase : Phase) →
-    Keeps (law_of (granted_law line)).base IsGiven (mount_line phase)
-granted-phase line Up = keep-say tt
-granted-phase line Down = granted-mount line
-granted-phase line Failed = keep-say tt
+granted-mounts : (line : ℕ) → Mounts (granted_law line)
+granted-mounts line = record {
+  fails = λ world holds. holds;
+  leaves = λ world holds. mounted-granted world.callers world.drive;
+}
 
 granted-line : (line : ℕ) (form : Form) →
     Keeps (law_of (granted_law line)).base Any (does line form)
@@ -573,20 +579,12 @@ granted-line line form = by-kind (is_of_names form) refl (is_plain form) refl (i
         any-of line (kept-power (law_of (granted_law line)) (granted-powers line) form same also)
     by-kind false is false same true also =
         any-of line (subst (λ f. Keeps (law_of (granted_law line)).base IsGivenIfAny (does line f))
-        (sym (only-mount form also))
-        (keep-then (keep-look (λ w. granted-phase line w.phase)) (λ answer given.
-        keep-give given)))
+        (sym (only-mount form also)) (kept-mounting (granted_law line) (granted-mounts line)))
 
-step-granted : {old new : World} {line : Line} {out : List OutLine} → play.Step line old out new →
-    AreGranted old → AreGranted new
-step-granted {old} {new} {line} (steps_so end way) holds =
-    ((granted-line line.number line.form).means.by old end new holds way).1
-
-runs-granted : (old new : World) (lines : List Line) (outs : List OutLine) →
-    Run old lines outs new → AreGranted old → AreGranted new
-runs-granted old new [] outs run_ends holds = holds
-runs-granted old new (line ∷ lines) outs (goes_on {mid = mid} {later = later} step rest) holds =
-    runs-granted mid new lines later rest (step-granted step holds)
+line-keeps : (line : ℕ) (form : Form) (old : World) (end : Result (Option Printed) Halt)
+    (new : World) → AreGranted old → does line form old end new → AreGranted new
+line-keeps line form old end new holds way =
+    ((granted-line line form).means.by old end new holds way).1
 
 pub open-granted : OpenFilesAreGranted
-open-granted = (mounted-granted, runs-granted)
+open-granted = (mounted-granted, kept-run AreGranted line-keeps)

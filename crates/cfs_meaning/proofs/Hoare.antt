@@ -1,5 +1,5 @@
 -- What holds behind a part of a line, where something holds before it.
-use Rattle.std.proofs.Common.{◌≡◌, ℕ, Bool, true, false, List, [], ◌∷◌, Option, Some, None, refl}
+use Rattle.std.proofs.Common.{◌≡◌, ℕ, Bool, true, false, List, Option, Some, None, refl}
 use Rattle.std.specs.Prelude.{Result, Ok, Err}
 use Rattle.cfs_core.specs.declared.event.Event.{Event}
 use Rattle.cfs_core.specs.May.{may}
@@ -8,7 +8,7 @@ use Rattle.cfs_print.specs.declared.printed.Printed.{Printed}
 use Rattle.cfs_meaning.specs.Drive.{Op, attempt}
 use Rattle.cfs_meaning.specs.World.{World, core_in, with_core}
 use Rattle.cfs_meaning.specs.Inode.{Comes, comes, event}
-use Rattle.cfs_meaning.specs.Ways.{Changes, Ends, Fault, Gives, Halt, Now, Then, Tries, Way, changes, choose, each, end_with, ends, follows, give, gives, halts, known, now, refuse_if, steps, tried, unless_fault, when, ◌>>=◌}
+use Rattle.cfs_meaning.specs.Ways.{Changes, Ends, Gives, Halt, Now, Then, Tries, Way, changes, end_with, ends, follows, give, gives, halts, known, now, refuse_if, steps, tried, unless_fault, ◌>>=◌}
 use Rattle.cfs_meaning.proofs.Total.{IfEnds, weaker-ends, with_attempt}
 
 -- Where P holds before the part, Q holds behind it of its value and the world, and E where it

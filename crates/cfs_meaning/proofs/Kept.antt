@@ -1,4 +1,5 @@
--- What is known of all parts of the lines of one number: of ways and events, and of requests on names.
+-- What is known of all parts of the lines of one number: of ways and events, and of requests on
+-- names.
 use Rattle.std.proofs.Common.{◌≡◌, ℕ, List}
 use Rattle.cfs_core.specs.declared.event.Event.{Event}
 use Rattle.cfs_core.specs.declared.event.Event.TheVariants as events
@@ -18,8 +19,8 @@ IsOfLine line (events.Crash image) = ⊥
 IsOfLine line events.Mount = ⊥
 IsOfLine line other = Unit {0}
 
--- Beside what is known of ways: of events that may come, of an entry that is helped where its no-ops
--- are skipped and its jobs are done, and of what a read defers.
+-- Beside what is known of ways: of events that may come, of an entry that is helped where its
+-- no-ops are skipped and its jobs are done, and of what a read defers.
 pub record Law : Type 1 where
   pub base : Base
   pub line : ℕ

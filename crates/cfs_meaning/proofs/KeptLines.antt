@@ -173,7 +173,8 @@ kept-file law (forms.Post c fd offset n) plain other =
     kept-up law (keep-then (kept-to-read law c fd) (λ d a. kept-post law d c _))
 kept-file law (forms.Serve c fd place) plain other =
     kept-up law (keep-then (kept-opened law c fd) (λ d a. kept-posted law d place))
-kept-file law (forms.Dispatch ino place) plain other = kept-up law (kept-dispatch-line law ino place)
+kept-file law (forms.Dispatch ino place) plain other =
+    kept-up law (kept-dispatch-line law ino place)
 kept-file law (forms.Apply ino place) plain other = kept-up law (kept-apply-line law ino place)
 kept-file law (forms.Finish ino place) plain other = kept-up law (kept-finish-line law ino place)
 kept-file law (forms.Skip ino place) plain other = kept-up law (kept-skip-line law ino place)

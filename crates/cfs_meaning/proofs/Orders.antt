@@ -1,16 +1,13 @@
 -- The requests on names stay a legal order.
-use Rattle.std.proofs.Common.{◌≡◌, ℕ, Bool, true, false, List, refl, sym, subst}
+use Rattle.std.proofs.Common.{◌≡◌, ℕ, List, refl, sym, subst}
 use Rattle.cfs_requests.specs.Steps.{NameEntry}
 use Rattle.cfs_requests.proofs.Orders.{orders-go-on}
-use Rattle.cfs_script.specs.declared.form.Form.{Form}
 use Rattle.cfs_meaning.specs.NameSteps.{AreInOrder, Order, changes_of, record_made}
-use Rattle.cfs_meaning.specs.World.{Down, Failed, Phase, Up}
-use Rattle.cfs_meaning.specs.Laws.{AreNamesLegal, IsGiven, NamesStayLegal, is_mount}
-use Rattle.cfs_meaning.specs.Play.{does, mount, mount_line, steps_so}
-use Rattle.cfs_meaning.proofs.Keeping.{Any, Keeps, keep-give, keep-look, keep-say, keep-then}
+use Rattle.cfs_meaning.specs.Laws.{AreNamesLegal, NamesStayLegal}
+use Rattle.cfs_meaning.specs.Play.{steps_so}
+use Rattle.cfs_meaning.proofs.Keeping.{Any}
 use Rattle.cfs_meaning.proofs.Worlds.{NameLaw, WorldLaw, law_of, moves, requests_of}
-use Rattle.cfs_meaning.proofs.KeptLines.{IsGivenIfAny}
-use Rattle.cfs_meaning.proofs.Lines.{Powers, kept-form, kept-home, only-mount}
+use Rattle.cfs_meaning.proofs.Lines.{Mounts, Powers, kept-each}
 use Rattle.cfs_meaning.proofs.Recorded.{step-made}
 
 alike : {b b' : Order} {l l' : List NameEntry} {n n' : Order} → b' ≡ b → l' ≡ l → n' ≡ n →
@@ -59,34 +56,11 @@ order-powers line = record {
   crashes = λ k. moves (order_law line).fact (λ world holds. holds);
 }
 
-kept-mount : (line : ℕ) → Keeps (law_of (order_law line)).base IsGiven mount
-kept-mount line =
-    keep-look (λ w.
-    keep-then (record { means = moves (order_law line).fact (λ here holds. holds) }) (λ u a.
-    keep-then (kept-home (law_of (order_law line)).base) (λ u a.
-    keep-then (record { means = moves (order_law line).fact (λ here holds. refl) }) (λ u a.
-    keep-give tt))))
-
-kept-phase : (line : ℕ) (phase : Phase) →
-    Keeps (law_of (order_law line)).base IsGiven (mount_line phase)
-kept-phase line Up = keep-say tt
-kept-phase line Down = kept-mount line
-kept-phase line Failed = keep-say tt
-
-kept-line : (line : ℕ) (form : Form) →
-    Keeps (law_of (order_law line)).base IsGivenIfAny (does line form)
-kept-line line form = by-kind (is_mount form) refl
-  where
-    by-kind : (mounts : Bool) → is_mount form ≡ mounts →
-        Keeps (law_of (order_law line)).base IsGivenIfAny (does line form)
-    by-kind false is =
-        kept-form (law_of (order_law line)) (requests_of (order_law line) (order-names line))
-        (order-powers line) form is
-    by-kind true is =
-        subst (λ f. Keeps (law_of (order_law line)).base IsGivenIfAny (does line f))
-        (sym (only-mount form is))
-        (keep-then (keep-look (λ w. kept-phase line w.phase)) (λ answer given. keep-give given))
+order-mounts : (line : ℕ) → Mounts (order_law line)
+order-mounts line = record { fails = λ world holds. holds; leaves = λ world holds. refl }
 
 pub names-stay : NamesStayLegal
 names-stay old new line out (steps_so end way) legal =
-    ((kept-line line.number line.form).means.by old end new legal way).1
+    ((kept-each (order_law line.number)
+    (requests_of (order_law line.number) (order-names line.number)) (order-powers line.number)
+    (order-mounts line.number) line.form).means.by old end new legal way).1

@@ -127,7 +127,8 @@ in-list P test (o ∷ opened) d is all =
   where
     pick : (b : Bool) → (find test opened ≡ Some d → P d.fd d.grant) →
         cond b (Some o) (find test opened) ≡ Some d → P d.fd d.grant
-    pick true rest now = let same : o ≡ d = cc in subst (λ (x : Descriptor). P x.fd x.grant) same all.0
+    pick true rest now =
+        let same : o ≡ d = cc in subst (λ (x : Descriptor). P x.fd x.grant) same all.0
     pick false rest now = rest now
 
 pub opened-has : (P : ℕ → ℕ → Grant → Type 0) (callers : List Caller) (c fd : ℕ)

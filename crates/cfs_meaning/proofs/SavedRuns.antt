@@ -1,5 +1,5 @@
 -- Behind a crash what is recovered stays so until the next mount.
-use Rattle.std.proofs.Common.{◌≡◌, ℕ, ◌+◌, ◌<◌, Bool, true, false, Option, Some, None, List, [], ◌∷◌, length, get_or, refl, sym, ap, ◌∙◌, subst, arith, if◌then◌else◌}
+use Rattle.std.proofs.Common.{◌≡◌, ℕ, ◌<◌, Bool, true, false, Option, List, [], ◌∷◌, length, get_or, refl, sym, ap, ◌∙◌, subst, arith, if◌then◌else◌}
 use Rattle.std.specs.Prelude.{Result, Ok, Err}
 use Rattle.std.specs.List.{All}
 use Rattle.cfs_pmem.specs.declared.pick.Pick.{Pick}
@@ -16,12 +16,12 @@ use Rattle.cfs_script.specs.declared.form.Form.TheVariants as forms
 use Rattle.cfs_script.specs.declared.line.Line.{Line}
 use Rattle.cfs_words.specs.declared.device.Device.{Device}
 use Rattle.cfs_meaning.specs.Drive.{Drive}
-use Rattle.cfs_meaning.specs.World.{Down, Failed, File, Phase, Up, World}
+use Rattle.cfs_meaning.specs.World.{Down, Failed, Phase, Up, World}
 use Rattle.cfs_meaning.specs.Files.{has_no_power}
-use Rattle.cfs_meaning.specs.Laws.{AreReached, HaveNoMount, is_mount}
-use Rattle.cfs_meaning.specs.Devices.{CrashedRunsRecover, CrashesRecover, IsEven, IsEvenBlock, IsEvenRegion, IsRecovered, IsSaved, IsShown, OfEachFile}
-use Rattle.cfs_meaning.specs.Play.{Run, Step, crash_in, crashed, does, goes_on, plan, run_ends, steps_so, stopped, told, up, while_up}
-use Rattle.cfs_meaning.specs.Ways.{Halt, Says, Way, changes, ends, follows, gives, halts, known, now}
+use Rattle.cfs_meaning.specs.Laws.{AreReached, is_mount}
+use Rattle.cfs_meaning.specs.Devices.{CrashedRunsRecover, CrashesRecover, IsEven, IsEvenBlock, IsEvenRegion, IsRecovered, IsSaved, IsShown}
+use Rattle.cfs_meaning.specs.Play.{Step, crash_in, crashed, does, goes_on, plan, run_ends, steps_so, stopped, told, up, while_up}
+use Rattle.cfs_meaning.specs.Ways.{Halt, Way}
 use Rattle.cfs_meaning.proofs.Hoare.{Leaves, leave-changes, leave-end, leave-give, leave-known, leave-look, leave-then, leave-weaker}
 use Rattle.cfs_meaning.proofs.ShownCrash.{block-left, crash-ends, crashes-leave-less, left-at, left-length, tree-less}
 use Rattle.cfs_meaning.proofs.ShownFiles.{files-map, shown-files-recover}
@@ -56,7 +56,8 @@ crash-even k drive even = record {
 pub crash-saved : (k : ℕ) (world : World) → IsSaved world → IsSaved (crash_in k world)
 crash-saved k world saved = record {
   files = files-map (IsRecovered world.drive) (IsRecovered (crashed k world.drive))
-      (λ f recovers. crashes-leave-less k world.drive f saved.even recovers) world.files saved.files;
+      (λ f recovers. crashes-leave-less k world.drive f saved.even recovers) world.files
+      saved.files;
   tree = tree-less k world saved.even saved.tree;
   even = crash-even k world.drive saved.even;
 }
@@ -66,7 +67,8 @@ crash-saved k world saved = record {
 asked-saved : (world : World) (asked : List Asked) → IsSaved world →
     IsSaved (record world { drive = record world.drive { asked = asked } })
 asked-saved world asked saved = record {
-  files = files-map (IsRecovered world.drive) _ (λ f recovers. recovers) world.files saved.files;
+  files = files-map (IsRecovered world.drive) _ (λ f recovers. recovers) world.files
+      saved.files;
   tree = saved.tree;
   even = record { regions = saved.even.regions; blocks = saved.even.blocks };
 }
@@ -76,12 +78,12 @@ stopped-saved : (n : ℕ) (world : World) → IsSaved world →
 stopped-saved n world saved = unless-off (has_no_power world.drive)
   where
     unless-off : (off : Bool) → IsSaved (record world {
-          drive = if off then world.drive
-              else record world.drive {
-                asked = Stopped n
-                    ∷ world.drive.asked;
-              };
-        })
+      drive = if off then world.drive
+          else record world.drive {
+            asked = Stopped n
+                ∷ world.drive.asked;
+          };
+    })
     unless-off true = saved
     unless-off false = asked-saved world _ saved
 
@@ -98,9 +100,11 @@ down-phase Failed way down = leave-end (λ w holds. holds)
 down-up : {way : Way Printed} → Leaves Unmounted (λ answer. Unmounted) Unmounted (up way)
 down-up {way = way} =
     leave-then {Q = λ answer. Unmounted}
-    (leave-look (λ x. record { by = λ old end new holds rest.
-        (down-phase x.phase way (λ is. holds.1.0 (ap (λ (w : World). w.phase) holds.0 ∙ is))).by old
-        end new holds.1 rest }))
+    (leave-look (λ x. record {
+      by = λ old end new holds rest.
+          (down-phase x.phase way (λ is. holds.1.0 (ap (λ (w : World). w.phase) holds.0 ∙ is))).by
+          old end new holds.1 rest;
+    }))
     (λ answer. leave-give (λ w holds. holds))
 
 down-told : {way : Way Printed} → Leaves Unmounted (λ answer. Unmounted) Unmounted way →

@@ -1,40 +1,26 @@
 -- A job's steps on the blocks of a file keep a world shown by its devices.
-use Rattle.std.proofs.Common.{◌≡◌, ◌≢◌, ℕ, suc, ◌+◌, ◌-◌, ◌*◌, ◌<◌, ◌≤◌, Bool, true, false, Option, Some, None, List, [], ◌∷◌, ◌++◌, length, map, reverse, take, drop, get_or, set, inl, inr, refl, sym, ap, ◌∙◌, subst, cond, if◌then◌else◌, arith}
-use Rattle.std.specs.Prelude.{Result, Ok, Err, ◌==◌, find, unwrap_or, max, min, replicate}
+use Rattle.std.proofs.Common.{◌≡◌, ◌≢◌, ℕ, ◌+◌, ◌-◌, ◌*◌, ◌<◌, Bool, true, false, Option, Some, None, List, length, get_or, set, refl, sym, ap, ◌∙◌, subst, if◌then◌else◌, arith}
+use Rattle.std.specs.Prelude.{◌==◌, unwrap_or}
 use Rattle.std.specs.List.{All}
 use Rattle.std.specs.Option.{option_map}
 use Rattle.std.proofs.Math.Path.{fun_ext}
 use Rattle.std.proofs.lemmas.Bool.{eqb-false, eqb-true, ne_eqb}
-use Rattle.std.proofs.lemmas.List.{get_or-set_other, get_or-set_same, length-set, length-take, length-drop, set-get_or}
-use Rattle.cfs_file.specs.declared.span.Span.{Span}
-use Rattle.cfs_file.specs.declared.span.Span.TheVariants.{From, Nothing, Range}
-use Rattle.cfs_file.specs.declared.sizes.TheConstants.{BLOCK_LEN, FILE_BLOCKS}
-use Rattle.cfs_core.specs.declared.event.Event.{Event}
-use Rattle.cfs_core.specs.declared.event.Event.TheVariants as events
+use Rattle.std.proofs.lemmas.List.{get_or-set_other, get_or-set_same, length-set}
+use Rattle.cfs_file.specs.declared.sizes.TheConstants.{FILE_BLOCKS}
 use Rattle.cfs_core.specs.declared.flag.Flag.{Flag}
 use Rattle.cfs_core.specs.declared.flag.Flag.TheVariants.{Off, On, Unsure}
 use Rattle.cfs_core.specs.declared.inode_core.Core.{Core}
-use Rattle.cfs_core.specs.After.{after}
-use Rattle.cfs_core.specs.May.{may, may_flush}
-use Rattle.cfs_core.specs.Words.{can_be, has_block, is_on, track}
-use Rattle.cfs_core.proofs.Goods.{good-kept}
-use Rattle.cfs_core_laws.specs.Reached.{IsReached}
-use Rattle.cfs_core_laws.proofs.Whole.{whole}
+use Rattle.cfs_core.specs.Words.{can_be, is_on}
 use Rattle.cfs_pmem.specs.declared.trace.Asked.{Asked}
-use Rattle.cfs_pmem.specs.declared.trace.Asked.TheVariants.{Step}
-use Rattle.cfs_pmem.specs.Images.{Seen, WordStep}
-use Rattle.cfs_pmem.specs.WordOps.{get}
-use Rattle.cfs_pmem.proofs.AskLemmas.{asks_one}
-use Rattle.cfs_pmem.proofs.MomentLemmas.{begun}
-use Rattle.cfs_block.specs.BlockImages.{BlockStep, Content, DiffersWithin, IsBlockImage, IsRangedFrom, content_of, kept, unflushed, unwritten, with_bytes, wrote}
-use Rattle.cfs_block.proofs.BlockMoments.{on_flush, on_stall, on_torn, on_write}
+use Rattle.cfs_pmem.specs.Images.{Seen}
+use Rattle.cfs_block.specs.BlockImages.{BlockStep}
 use Rattle.cfs_medium.specs.Shows.{Shows, is_for}
 use Rattle.cfs_medium.specs.World as media
 use Rattle.cfs_medium.specs.WorldCalls.{with_block}
-use Rattle.cfs_meaning.specs.Drive.{Attempt, Block, Drive, Op, Word, attempt, block_at, is_allowed, made, noted, refused, region_at}
-use Rattle.cfs_meaning.specs.World.{File, World, block_of, core_in, file_in, find_file, new_file, replaces, with_core}
-use Rattle.cfs_meaning.specs.Devices.{AllApart, AreApart, IsEvenBlock, IsFileShown, IsPlaced, IsShown, OfEachFile, devices_of_file}
-use Rattle.cfs_meaning.proofs.ShownFiles.{IsInPlace, files-both, files-map, found-in, replaced-but, still-apart}
+use Rattle.cfs_meaning.specs.Drive.{Drive, block_at}
+use Rattle.cfs_meaning.specs.World.{File, World, block_of, file_in, find_file, new_file, with_core}
+use Rattle.cfs_meaning.specs.Devices.{AreApart, IsEvenBlock, IsFileShown, IsPlaced, IsShown, OfEachFile, devices_of_file}
+use Rattle.cfs_meaning.proofs.ShownFiles.{files-both, files-map, found-in, replaced-but, still-apart}
 
 -- ---- one block changes
 
@@ -55,7 +41,8 @@ others-devices drive b seen asked g other =
         option_map (block_at (with_seen b seen asked drive)) o ≡ option_map (block_at drive) o
     by-block j None is = refl
     by-block j (Some n) is =
-        ap (λ (s : Seen BlockStep). Some s) (get_or-set_other drive.blocks b n seen _ (other j n is))
+        ap (λ (s : Seen BlockStep). Some s)
+        (get_or-set_other drive.blocks b n seen _ (other j n is))
 
 -- the devices of the file that has it
 own-devices : (drive : Drive) (b k : ℕ) (seen : Seen BlockStep) (asked : List Asked) (g : File) →
@@ -109,8 +96,8 @@ pub block-shown : (world : World) (ino k b : ℕ) (seen : Seen BlockStep) (core 
 block-shown world ino k b seen core asked f found here full shows shown = record {
   files = replaced-but
       (λ g. IsFileShown world.drive g × AreApart old g) (IsFileShown changed) new world.files
-      (λ up. subst (Shows old.ino core) (sym (own-devices world.drive b k seen asked old here low own))
-      (shows up))
+      (λ up. subst (Shows old.ino core)
+      (sym (own-devices world.drive b k seen asked old here low own)) (shows up))
       (λ g other holds up. subst (Shows g.ino g.core)
       (sym (others-devices world.drive b seen asked g (apart g other holds.1)))
       (holds.0 up))
@@ -193,7 +180,8 @@ mapped-has drive f k shows low on = by-block (block_of f k) refl
     by-block (Some b) is = (b, is)
     by-block None is =
         let fits = (shows.blocks k low).images media.nothing
-        (subst (λ o. media.IsImageAt (option_map (block_at drive) o) media.nothing) (sym is) refl) in
+        (subst (λ o. media.IsImageAt (option_map (block_at drive) o) media.nothing) (sym is)
+        refl) in
         absurd (none-on (get_or f.core.tags k Off) on
         (ap (λ t. can_be (get_or f.core.tags k Off) t)
         (sym (flag-off f.ino k)) ∙ fits.tag_is))

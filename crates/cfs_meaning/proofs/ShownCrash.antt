@@ -1,34 +1,31 @@
 -- A crash leaves less than could be left before.
-use Rattle.std.proofs.Common.{◌≡◌, ℕ, zero, suc, ◌+◌, ◌%◌, ◌<◌, ◌≤◌, Bool, true, false, ◌&&◌, ◌||◌, Option, Some, None, List, [], ◌∷◌, length, map, take, get_or, set, inl, inr, refl, sym, ap, ◌∙◌, subst, arith, ⊎_elim, if◌then◌else◌}
-use Rattle.std.specs.Prelude.{Result, Ok, Err, nat_le, nat_lt}
+use Rattle.std.proofs.Common.{◌≡◌, ℕ, zero, suc, ◌+◌, ◌%◌, ◌<◌, Bool, true, false, ◌&&◌, Option, Some, None, List, [], ◌∷◌, length, map, take, get_or, inl, inr, refl, sym, ap, ◌∙◌, subst, arith, ⊎_elim}
+use Rattle.std.specs.Prelude.{Result, nat_le, nat_lt}
 use Rattle.std.specs.List.{All}
 use Rattle.std.specs.Option.{option_map}
 use Rattle.std.proofs.lemmas.Bool.{and_parts, cases_lt, leb-true, ltb-true, or_cases}
 use Rattle.std.proofs.lemmas.List.{get_or-take, get_or_past, length-take}
-use Rattle.cfs_file.specs.declared.sizes.TheConstants.{BLOCK_LEN}
 use Rattle.cfs_pmem.specs.declared.pick.Pick.{Pick}
 use Rattle.cfs_pmem.specs.declared.pick.Pick.TheVariants.{Drawn, Durable, Present}
 use Rattle.cfs_pmem.specs.Draws.{after_byte, after_word, byte_left, draw_of, pick_of, words_left}
-use Rattle.cfs_pmem.specs.Images.{IsImage, Seen, WordStep, words_kept, words_now, words_of}
+use Rattle.cfs_pmem.specs.Images.{IsImage, Seen, WordStep, words_kept, words_of}
 use Rattle.cfs_pmem.specs.Objects.{IsEachImage}
 use Rattle.cfs_pmem.proofs.Crashes.{each_left_at, left_word, length-each_left}
 use Rattle.cfs_pmem.proofs.ImageLemmas as regions
 use Rattle.cfs_pmem.proofs.MemRegions as memory
-use Rattle.cfs_block.specs.BlockImages.{BlockStep, Content, IsBlockImage, MayHaveByte, MayHaveTag, content_kept, content_now, content_of, flushed, ranged, stalled, tagged}
+use Rattle.cfs_block.specs.BlockImages.{BlockStep, Content, IsBlockImage, MayHaveByte, MayHaveTag, content_kept, content_now, flushed, ranged, stalled, tagged}
 use Rattle.cfs_block.specs.Written.{block_left, is_written}
 use Rattle.cfs_block.proofs.BlockLemmas.{byte_kept, byte_now, only_kept, tag_kept, tag_now}
 use Rattle.cfs_image.specs.Crash.{after_block_of, after_region, after_regions, all_left, block_left_of, blocks_left, region_left, regions_left}
-use Rattle.cfs_medium.specs.World as media
 use Rattle.cfs_medium.specs.World.{IsImageAt, MayRemain, Remains}
 use Rattle.cfs_meaning.specs.Drive.{Drive, block_at, region_at}
 use Rattle.cfs_meaning.specs.World.{File, World, block_of, devices_of, held_at}
 use Rattle.cfs_meaning.specs.Steps.{size_word}
 use Rattle.cfs_print.specs.declared.printed.Printed.{Printed}
 use Rattle.cfs_script.specs.declared.form.Form.TheVariants as forms
-use Rattle.cfs_meaning.specs.Play.{crash_in, crashed, does, steps_so}
+use Rattle.cfs_meaning.specs.Play.{crash_in, crashed, does}
 use Rattle.cfs_meaning.specs.Ways.{Halt, changes, ends, follows, gives}
-use Rattle.cfs_meaning.specs.Devices.{CrashesLeaveLess, CrashesRecover, IsEven, IsEvenBlock, IsEvenRegion, IsRecovered, IsTreeShown, OfEachFile, devices_of_file}
-use Rattle.cfs_meaning.proofs.ShownFiles.{files-map, shown-files-recover}
+use Rattle.cfs_meaning.specs.Devices.{CrashesLeaveLess, IsEven, IsEvenBlock, IsEvenRegion, IsTreeShown, devices_of_file}
 
 -- ---- one object
 
@@ -195,10 +192,11 @@ regions-less : (pick : Pick) (seens : List (Seen WordStep)) → All IsEvenRegion
 regions-less pick [] even [] h = h
 regions-less pick [] even (image ∷ images) h = h
 regions-less pick (seen ∷ rest) even [] h = h
-regions-less pick (seen ∷ rest) even (image ∷ images) h =
-    (region-less pick seen (even 0 seen (omega arith)) image h.0,
-    regions-less (after_region pick seen) rest (λ k d low. even (suc k) d (omega (arith, low))) images
-    h.1)
+regions-less pick (seen ∷ rest) even (image ∷ images) h = (
+  region-less pick seen (even 0 seen (omega arith)) image h.0,
+  regions-less (after_region pick seen) rest (λ k d low. even (suc k) d (omega (arith, low))) images
+      h.1,
+)
 
 take-left : (n : ℕ) (pick : Pick) (seens : List (Seen WordStep)) →
     take n (regions_left pick seens) ≡ regions_left pick (take n seens)

@@ -13,10 +13,9 @@ use Rattle.cfs_pmem.specs.declared.trace.Asked.{Asked}
 use Rattle.cfs_medium.specs.Shows.{Shows}
 use Rattle.cfs_medium.specs.World as media
 use Rattle.cfs_medium.proofs.LiveLeft.{shown-recovers}
-use Rattle.cfs_meaning.specs.Drive.{Drive}
 use Rattle.cfs_meaning.specs.World.{File, Held, World, core_in, file_in, find_file, new_file, replaces, with_core, with_file}
 use Rattle.cfs_meaning.specs.Devices.{AllApart, AreApart, IsFileShown, IsPlaced, IsRecovered, IsShown, OfEachFile, ShownFilesRecover, devices_of_file}
-use Rattle.cfs_meaning.specs.Laws.{AreReached, OfEachCore}
+use Rattle.cfs_meaning.specs.Laws.{OfEachCore}
 
 -- ---- each file
 

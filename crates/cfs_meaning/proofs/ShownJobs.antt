@@ -1,6 +1,6 @@
 -- The steps of a job keep a world shown by its devices.
-use Rattle.std.proofs.Common.{◌≡◌, ◌≢◌, ℕ, suc, ◌+◌, ◌-◌, ◌*◌, ◌<◌, ◌≤◌, Bool, true, false, not, ◌&&◌, Option, Some, None, List, [], ◌∷◌, ◌++◌, length, map, reverse, take, drop, get_or, set, inl, inr, refl, sym, ap, ◌∙◌, subst, cond, if◌then◌else◌, arith}
-use Rattle.std.specs.Prelude.{Result, Ok, Err, ◌==◌, find, unwrap_or, nat_lt, max, min, slice_get}
+use Rattle.std.proofs.Common.{◌≡◌, ℕ, ◌+◌, ◌-◌, ◌*◌, ◌<◌, ◌≤◌, Bool, true, false, not, Option, Some, None, List, [], ◌∷◌, length, map, reverse, take, drop, get_or, refl, sym, ap, ◌∙◌, subst, if◌then◌else◌, arith}
+use Rattle.std.specs.Prelude.{Ok, Err, ◌==◌, find, unwrap_or, nat_lt, max, min, slice_get}
 use Rattle.std.specs.Option.{option_map}
 use Rattle.std.proofs.lemmas.Bool.{and_parts, ltb-true}
 use Rattle.std.proofs.lemmas.List.{get_or-set_same, length-take, length-drop, length-replicate, set-get_or}
@@ -9,13 +9,11 @@ use Rattle.cfs_file.specs.declared.span.Span.TheVariants.{From, Nothing, Range}
 use Rattle.cfs_file.specs.declared.sizes.TheConstants.{BLOCK_LEN, FILE_BLOCKS}
 use Rattle.cfs_core.specs.declared.event.Event.{Event}
 use Rattle.cfs_core.specs.declared.event.Event.TheVariants as events
-use Rattle.cfs_core.specs.declared.flag.Flag.TheVariants.{Off}
 use Rattle.cfs_core.specs.declared.inode_core.Core.{Core}
 use Rattle.cfs_core.specs.declared.state.Lease.{Lease}
 use Rattle.cfs_core.specs.After.{after}
-use Rattle.cfs_core.specs.Good.{IsGood}
-use Rattle.cfs_core.specs.May.{case, is_in_phase, may, may_flush, may_write}
-use Rattle.cfs_core.specs.Words.{blank, end_in, has_block, is_live, is_on, payload, payload_at, piece_in, start_in, start_of, track}
+use Rattle.cfs_core.specs.May.{case, is_in_phase, may, may_flush}
+use Rattle.cfs_core.specs.Words.{blank, end_in, has_block, is_live, payload, payload_at, piece_in, start_in, start_of, track}
 use Rattle.cfs_core.proofs.Goods.{good-kept}
 use Rattle.cfs_core.proofs.Alive.{block_lives}
 use Rattle.cfs_core.proofs.Kept.{at}
@@ -24,7 +22,7 @@ use Rattle.cfs_core.proofs.Registers.{IsShaped, change-shaped}
 use Rattle.cfs_core.proofs.StoredWrites.{piece_fits}
 use Rattle.cfs_core_laws.specs.Reached.{IsReached}
 use Rattle.cfs_core_laws.specs.Reached as reaching
-use Rattle.cfs_core_laws.proofs.Blanks.{IsPart, is-part, part-at}
+use Rattle.cfs_core_laws.proofs.Blanks.{IsPart, is-part}
 use Rattle.cfs_core_laws.proofs.Finds.{wants}
 use Rattle.cfs_core_laws.proofs.Through.{payload-at}
 use Rattle.cfs_core_laws.proofs.Untagged.{wanted-at}
@@ -37,24 +35,21 @@ use Rattle.cfs_pmem.specs.WordOps.{get}
 use Rattle.cfs_pmem.proofs.AskLemmas.{asks_one}
 use Rattle.cfs_pmem.proofs.MomentLemmas.{begun}
 use Rattle.cfs_pmem.proofs.Patches.{length-patched, patched_same}
-use Rattle.cfs_block.specs.BlockImages.{BlockStep, Content, DiffersWithin, IsBlockImage, IsRangedFrom, IsTorn, content_of, kept, ranged, unflushed, unwritten, with_bytes, wrote}
+use Rattle.cfs_block.specs.BlockImages.{BlockStep, Content, DiffersWithin, IsBlockImage, IsRangedFrom, content_of, kept, ranged, unwritten, with_bytes, wrote}
 use Rattle.cfs_block.specs.BlockOps.{BlockOp, block_done, flush, get_bytes, put_bytes}
 use Rattle.cfs_block.proofs.BlockMoments.{on_flush, on_stall, on_torn, on_write}
-use Rattle.cfs_medium.specs.BlockEvents.{Flushes, IsPiece}
 use Rattle.cfs_medium.specs.Shows.{Shows}
-use Rattle.cfs_medium.specs.World as media
 use Rattle.cfs_medium.specs.WorldCalls.{with_block}
 use Rattle.cfs_medium.proofs.FlushEvents.{flushes-show}
 use Rattle.cfs_medium.proofs.WriteEvents.{writes-show}
 use Rattle.cfs_slot.specs.Payload.{SlotRead, payload_reads}
 use Rattle.cfs_meaning.specs.Drive.{Attempt, Block, Drive, Op, Word, attempt, block_at, block_refused, content_at, is_allowed, made, noted, refused}
-use Rattle.cfs_meaning.specs.Steps.{payload_read}
 use Rattle.cfs_meaning.specs.World.{File, World, block_of, core_in, devices_of, file_in, find_file, held_at, new_file, with_core}
 use Rattle.cfs_meaning.specs.Devices.{IsEvenBlock, IsPlaced, IsShown, devices_of_file}
 use Rattle.cfs_meaning.specs.Inode.{apply, flush_block, leases_at, next_step, part_read, what_is_left, write_block}
 use Rattle.cfs_meaning.specs.Laws.{AreReached}
 use Rattle.cfs_meaning.specs.Ways.{steps}
-use Rattle.cfs_meaning.proofs.Hoare.{Leaves, leave-changes, leave-event, leave-give, leave-look, leave-then, leave-tries, leave-unless, leave-weaker}
+use Rattle.cfs_meaning.proofs.Hoare.{Leaves, leave-event, leave-give, leave-look, leave-then, leave-tries, leave-unless, leave-weaker}
 use Rattle.cfs_meaning.proofs.Quiet.{file-has}
 use Rattle.cfs_meaning.proofs.Reached.{empty-reached}
 use Rattle.cfs_meaning.proofs.ShownBlocks.{block-shown, mapped-has, with_seen}
@@ -179,8 +174,9 @@ job-found world ino place k has_it = by-find (find_file world ino) refl
     by-find (Some f) is = (f, is)
     by-find None is =
         absurd (none-has place k
-        (subst (λ o. has_block (track (unwrap_or o (new_file 0 0)).core.tracks place).state k ≡ true)
-        is has_it))
+        (subst
+        (λ o. has_block (track (unwrap_or o (new_file 0 0)).core.tracks place).state k ≡ true) is
+        has_it))
 
 -- what a job's block is
 pub record IsJobs (world : World) (ino place k : ℕ) : Type 0 where
@@ -312,14 +308,15 @@ pub flush-shown : (ino place k : ℕ) →
 flush-shown ino place k =
     leave-look (λ x.
     leave-then {Q = λ ok w. AtWork ino x
-        × IsBehindOp x (unwrap_or (block_of (file_in x ino) k) 0) flush ok w}
+    × IsBehindOp x (unwrap_or (block_of (file_in x ino) k) 0) flush ok w}
     (leave-tries (λ w holds.
     subst (λ v. AtWork ino x
     × IsBehindOp x (unwrap_or (block_of (file_in x ino) k) 0) flush
     (attempt (Block (unwrap_or (block_of (file_in x ino) k) 0) flush ∷ []) v.drive).whole
-    (with_attempt (Block (unwrap_or (block_of (file_in x ino) k) 0) flush ∷ []) v)) (sym holds.0)
-    (subst (AtWork ino) holds.0 holds.1,
-    behind-op x (unwrap_or (block_of (file_in x ino) k) 0) flush))) (λ ok.
+    (with_attempt (Block (unwrap_or (block_of (file_in x ino) k) 0) flush ∷ []) v)) (sym holds.0) (
+      subst (AtWork ino) holds.0 holds.1,
+      behind-op x (unwrap_or (block_of (file_in x ino) k) 0) flush,
+    ))) (λ ok.
     leave-then {Q = λ u. IsShown}
     (leave-event (λ w holds may_be.
     flush-event x ok w holds.0 holds.1 may_be)) (λ u.
@@ -506,8 +503,8 @@ written-core world ino place k false work job has_it may_be =
     (let within = sized.within in omega (arith, within, same)) in
     let is : content_of seen ≡ with_bytes (from_in core place k) left (content_of seen) =
     ap (λ bytes. record { tag = (content_of seen).tag; bytes = bytes })
-    (sym (patched_same (content_of seen).bytes (from_in core place k) (length (piece_of core place k))
-    (let within = sized.within in let is = job.full.1 in omega (arith, within, is)))) in
+    (sym (patched_same (content_of seen).bytes (from_in core place k)
+    (length (piece_of core place k)) (let within = sized.within in let is = job.full.1 in omega (arith, within, is)))) in
     (writes-show (file_in world ino).ino (length core.log + 2) place k (from_in core place k)
     (Some left) left core (devices_of_file world.drive (file_in world ino)) seen
     (unwritten (from_in core place k) (length (piece_of core place k)) seen) [] _
@@ -574,7 +571,8 @@ written-shown : (world : World) (ino place k : ℕ) (ok : Bool) (asked : List As
     (content_at (with_seen (number_at world ino k)
     (seen_after ok (write_op world ino place k) (block_at world.drive (number_at world ino k)))
     asked world.drive) (number_at world ino k)).bytes) →
-    IsShown (record (with_core ino (after (core_in world ino) (write_event place k ok left)) world) {
+    IsShown (record
+    (with_core ino (after (core_in world ino) (write_event place k ok left)) world) {
       drive = with_seen (number_at world ino k)
           (seen_after ok (write_op world ino place k)
           (block_at world.drive (number_at world ino k))) asked world.drive;
@@ -655,7 +653,7 @@ write-shown ino place k =
     leave-look (λ x.
     leave-then {Q = λ u w. AtWork ino x × IsAskedOf x w} (reads x) (λ u.
     leave-then {Q = λ ok w. AtWork ino x
-        × IsBehindOp x (number_at x ino k) (write_op x ino place k) ok w}
+    × IsBehindOp x (number_at x ino k) (write_op x ino place k) ok w}
     (leave-tries (λ w holds. (holds.0, write-tries x ino place k w holds.1))) (λ ok.
     leave-look (λ behind.
     leave-then {Q = λ v. IsShown}
@@ -666,7 +664,8 @@ write-shown ino place k =
     asked-work : (x w : World) → AtWork ino x → IsAskedOf x w → IsShown w
     asked-work x w work of = subst IsShown (sym of.1) (asked-shown x of.0 work.shown)
 
-    tried : (x w : World) (ops : List Op) → AreReads ops → (w ≡ x) → IsAskedOf x (with_attempt ops w)
+    tried : (x w : World) (ops : List Op) → AreReads ops → (w ≡ x) →
+        IsAskedOf x (with_attempt ops w)
     tried x w ops reading same =
         subst (λ v. IsAskedOf x (with_attempt ops v)) (sym same)
         (let only = reads-only ops reading x.drive in
@@ -675,17 +674,19 @@ write-shown ino place k =
     reads : (x : World) → Leaves (λ w. (w ≡ x) × AtWork ino w)
         (λ u w. AtWork ino x × IsAskedOf x w) IsShown
         (steps
-        (part_read (devices_of (held_at (file_in x ino) place)) (payload_at (core_in x ino).log place)
-        (track (core_in x ino).tracks place).span k))
+        (part_read (devices_of (held_at (file_in x ino) place))
+        (payload_at (core_in x ino).log place) (track (core_in x ino).tracks place).span k))
     reads x =
         leave-then {Q = λ b w. AtWork ino x × IsAskedOf x w}
-        (leave-tries (λ w holds. (subst (AtWork ino) holds.0 holds.1,
-        tried x w
-        (part_read (devices_of (held_at (file_in x ino) place)) (payload_at (core_in x ino).log place)
-        (track (core_in x ino).tracks place).span k)
-        (part-reads (devices_of (held_at (file_in x ino) place))
-        (payload_at (core_in x ino).log place) (track (core_in x ino).tracks place).span k)
-        holds.0))) (λ b.
+        (leave-tries (λ w holds. (
+          subst (AtWork ino) holds.0 holds.1,
+          tried x w
+              (part_read (devices_of (held_at (file_in x ino) place))
+              (payload_at (core_in x ino).log place) (track (core_in x ino).tracks place).span k)
+              (part-reads (devices_of (held_at (file_in x ino) place))
+              (payload_at (core_in x ino).log place) (track (core_in x ino).tracks place).span k)
+              holds.0,
+        ))) (λ b.
         leave-unless b (λ w holds. holds) (λ w holds. asked-work x w holds.0 holds.1))
 
 -- ---- the next step of a job

@@ -1,5 +1,5 @@
 -- Lines that keep a world shown by its devices.
-use Rattle.std.proofs.Common.{◌≡◌, ℕ, ◌+◌, Bool, true, false, not, Option, Some, None, List, ◌∷◌, length, refl, sym, ap, subst, if◌then◌else◌}
+use Rattle.std.proofs.Common.{◌≡◌, ℕ, ◌+◌, Bool, true, false, Option, ◌∷◌, length, refl, sym, subst, if◌then◌else◌}
 use Rattle.std.specs.Prelude.{Result, Ok, Err}
 use Rattle.cfs_file.specs.declared.entry.Entry.{Entry}
 use Rattle.cfs_file.specs.declared.request.Request.{Request}
@@ -7,28 +7,26 @@ use Rattle.cfs_file.specs.declared.request.Request.TheVariants as requests
 use Rattle.cfs_core.specs.declared.event.Event.TheVariants as events
 use Rattle.cfs_medium.proofs.QuietEvents.{quiet-events-show}
 use Rattle.cfs_medium.proofs.ReadEvents.{reads-may-come}
-use Rattle.cfs_pmem.specs.declared.trace.Asked.{Asked}
 use Rattle.cfs_pmem.specs.declared.trace.Asked.TheVariants.{Stopped}
 use Rattle.cfs_print.specs.declared.printed.Printed.{Printed}
 use Rattle.cfs_script.specs.declared.form.Form.{Form}
 use Rattle.cfs_script.specs.declared.form.Form.TheVariants as forms
 use Rattle.cfs_words.specs.declared.device.Device.{Device}
 use Rattle.cfs_words.specs.declared.seek.Seek.{Seek}
-use Rattle.cfs_meaning.specs.Drive.{Drive}
-use Rattle.cfs_meaning.specs.World.{Descriptor, Down, Failed, Phase, Up, World, core_in, descriptor_in, file_in, with_descriptor, with_file}
+use Rattle.cfs_meaning.specs.World.{Descriptor, Down, Failed, Phase, Up, World, core_in, descriptor_in, file_in, with_file}
 use Rattle.cfs_meaning.specs.Inode.{Absent, Behind, Ready, Verdict, admit_read, dispatch, verdict, with_passed}
-use Rattle.cfs_meaning.specs.Files.{has_no_power, list_queue, lseek, most_read, move_to, opened, opened_to_read, post}
+use Rattle.cfs_meaning.specs.Files.{has_no_power, list_queue, lseek, most_read, opened, opened_to_read, post}
 use Rattle.cfs_meaning.specs.Workers.{apply_line, dispatch_by, dispatch_line, there}
 use Rattle.cfs_meaning.specs.Devices.{IsShown, Suits, LinesKeepShown, keeps_shown}
 use Rattle.cfs_meaning.specs.Laws.{AreReached, is_mount}
-use Rattle.cfs_meaning.specs.Play.{does, mount_line, plan, planned, steps_so, stopped, told, up, while_up}
-use Rattle.cfs_meaning.specs.Ways.{Halt, Now, Way, give, known, now, refuse_if, ◌>>=◌}
-use Rattle.cfs_meaning.proofs.Hoare.{Leaves, leave-changes, leave-end, leave-event, leave-give, leave-known, leave-look, leave-refuse, leave-then, leave-weaker}
+use Rattle.cfs_meaning.specs.Play.{does, plan, steps_so, stopped, while_up}
+use Rattle.cfs_meaning.specs.Ways.{Halt, Now, now}
+use Rattle.cfs_meaning.proofs.Hoare.{Leaves, leave-changes, leave-end, leave-event, leave-look, leave-refuse, leave-then, leave-weaker}
 use Rattle.cfs_meaning.proofs.Lines.{mount-up, only-mount}
 use Rattle.cfs_meaning.proofs.ShownJobs.{AtWork, apply-shown}
 use Rattle.cfs_meaning.proofs.ShownFiles.{asked-shown, event-shown, file-shown}
-use Rattle.cfs_meaning.proofs.ShownParts.{Keeps, any-give, any-known, any-look, any-refuse, keep-phase, keep-told, keep-up, moved-shown, same-shown}
-use Rattle.cfs_meaning.proofs.ShownReads.{ReadsOpen, read-line, serve-line, sync-line}
+use Rattle.cfs_meaning.proofs.ShownParts.{Keeps, any-give, any-known, any-look, any-refuse, keep-told, keep-up, moved-shown, same-shown}
+use Rattle.cfs_meaning.proofs.ShownReads.{read-line, serve-line, sync-line}
 use Rattle.cfs_meaning.proofs.Total.{IfEnds}
 
 keep-seek : (d : Descriptor) (c : ℕ) (seek : Seek) → Keeps (lseek d c seek)
@@ -116,12 +114,12 @@ stopped-shown : (n : ℕ) (world : World) → IsShown world →
 stopped-shown n world shown = unless-off (has_no_power world.drive)
   where
     unless-off : (off : Bool) → IsShown (record world {
-          drive = if off then world.drive
-              else record world.drive {
-                asked = Stopped n
-                    ∷ world.drive.asked;
-              };
-        })
+      drive = if off then world.drive
+          else record world.drive {
+            asked = Stopped n
+                ∷ world.drive.asked;
+          };
+    })
     unless-off true = shown
     unless-off false = asked-shown world _ shown
 

@@ -1,32 +1,12 @@
 -- Parts of lines that keep a world shown by its devices.
-use Rattle.std.proofs.Common.{◌≡◌, ℕ, ◌+◌, Bool, true, false, not, Option, Some, None, List, ◌∷◌, length, refl, sym, ap, subst, if◌then◌else◌}
-use Rattle.std.specs.Prelude.{Result, Ok, Err}
-use Rattle.cfs_file.specs.declared.entry.Entry.{Entry}
-use Rattle.cfs_file.specs.declared.request.Request.{Request}
-use Rattle.cfs_core.specs.declared.event.Event.TheVariants as events
-use Rattle.cfs_medium.proofs.QuietEvents.{quiet-events-show}
-use Rattle.cfs_medium.proofs.ReadEvents.{reads-may-come}
-use Rattle.cfs_pmem.specs.declared.trace.Asked.{Asked}
-use Rattle.cfs_pmem.specs.declared.trace.Asked.TheVariants.{Stopped}
+use Rattle.std.proofs.Common.{◌≡◌, ℕ, Bool, true, false, not, Option, Some, None, refl, sym, subst, if◌then◌else◌}
 use Rattle.cfs_print.specs.declared.printed.Printed.{Printed}
-use Rattle.cfs_script.specs.declared.form.Form.{Form}
-use Rattle.cfs_script.specs.declared.form.Form.TheVariants as forms
-use Rattle.cfs_words.specs.declared.device.Device.{Device}
-use Rattle.cfs_words.specs.declared.seek.Seek.{Seek}
-use Rattle.cfs_meaning.specs.Drive.{Drive}
-use Rattle.cfs_meaning.specs.World.{Descriptor, Down, Failed, Phase, Up, World, core_in, descriptor_in, file_in, with_descriptor, with_file}
-use Rattle.cfs_meaning.specs.Inode.{Absent, Behind, Ready, Verdict, admit_read, dispatch, verdict, with_passed}
-use Rattle.cfs_meaning.specs.Files.{at_position, has_no_power, list_queue, lseek, move_to, moved_by, opened, opened_to_read, post}
-use Rattle.cfs_meaning.specs.Workers.{apply_line, dispatch_by, dispatch_line, there}
+use Rattle.cfs_meaning.specs.World.{Descriptor, Down, Failed, Phase, Up, World, with_descriptor}
+use Rattle.cfs_meaning.specs.Files.{at_position, has_no_power, moved_by}
 use Rattle.cfs_meaning.specs.Devices.{IsShown}
-use Rattle.cfs_meaning.specs.Laws.{AreReached, is_mount}
-use Rattle.cfs_meaning.specs.Play.{does, mount_line, plan, planned, steps_so, stopped, told, up, while_up}
-use Rattle.cfs_meaning.specs.Ways.{Halt, Now, Way, give, known, now, refuse_if, ◌>>=◌}
-use Rattle.cfs_meaning.proofs.Hoare.{Leaves, leave-changes, leave-end, leave-event, leave-give, leave-known, leave-look, leave-refuse, leave-then, leave-weaker}
-use Rattle.cfs_meaning.proofs.Lines.{mount-up, only-mount}
-use Rattle.cfs_meaning.proofs.ShownJobs.{AtWork, apply-shown}
-use Rattle.cfs_meaning.proofs.ShownFiles.{asked-shown, event-shown, file-shown}
-use Rattle.cfs_meaning.proofs.Total.{IfEnds}
+use Rattle.cfs_meaning.specs.Play.{does, told, up, while_up}
+use Rattle.cfs_meaning.specs.Ways.{Now, Way, give, known, refuse_if, ◌>>=◌}
+use Rattle.cfs_meaning.proofs.Hoare.{Leaves, leave-end, leave-give, leave-known, leave-look, leave-refuse, leave-then, leave-weaker}
 
 -- the part keeps a world shown, however it ends
 abbrev pub Keeps : {A : Type 0} → Way A → Type 0

@@ -1,5 +1,5 @@
 -- Lines that only read keep a world shown by its devices.
-use Rattle.std.proofs.Common.{◌≡◌, ℕ, zero, suc, ◌+◌, ◌-◌, ◌<◌, Bool, true, false, not, ◌&&◌, ◌||◌, Option, Some, None, List, [], ◌∷◌, ◌++◌, length, map, get_or, refl, sym, ap, ◌∙◌, subst, inl, inr, if◌then◌else◌, arith}
+use Rattle.std.proofs.Common.{◌≡◌, ℕ, zero, suc, ◌+◌, ◌-◌, Bool, true, false, ◌&&◌, ◌||◌, Option, Some, None, List, [], ◌∷◌, ◌++◌, length, map, get_or, refl, sym, ap, ◌∙◌, subst, inl, inr, if◌then◌else◌}
 use Rattle.std.specs.Prelude.{Result, Ok, Err, ◌==◌, find, unwrap_or}
 use Rattle.std.specs.List.{flat_map, list_any, range_with_len}
 use Rattle.std.specs.Option.{option_to_list}
@@ -14,7 +14,7 @@ use Rattle.cfs_core.specs.declared.inode_core.Core.{Core}
 use Rattle.cfs_core.specs.declared.state.State.{State}
 use Rattle.cfs_core.specs.declared.track.Track.{Track}
 use Rattle.cfs_core.specs.After.{after, query_track}
-use Rattle.cfs_core.specs.May.{is_sync_at, may, span_now}
+use Rattle.cfs_core.specs.May.{is_sync_at, span_now}
 use Rattle.cfs_core.specs.Medium.{reads}
 use Rattle.cfs_core.specs.Words.{blank, blocks_needed, has_block, is_live, positions, track}
 use Rattle.cfs_core.proofs.Alive.{block_lives}
@@ -23,17 +23,15 @@ use Rattle.cfs_block.specs.BlockOps.{get_bytes}
 use Rattle.cfs_medium.proofs.QuietEvents.{quiet-events-show}
 use Rattle.cfs_medium.proofs.ReadEvents.{reads-may-come}
 use Rattle.cfs_print.specs.declared.printed.Printed.{Printed}
-use Rattle.cfs_print.specs.declared.printed.Printed.TheVariants.{Refused}
-use Rattle.cfs_dir.specs.declared.posix.Posix.TheVariants as posix
 use Rattle.cfs_meaning.specs.Drive.{Block, Op}
-use Rattle.cfs_meaning.specs.World.{Descriptor, Down, Failed, File, Phase, Up, World, block_of, core_in, descriptor_in, file_in, find_file, new_file, with_core, with_descriptor}
-use Rattle.cfs_meaning.specs.Inode.{Absent, Behind, Ready, Verdict, admit_read, drop_read, first_before, first_of, holder, serve, serve_verdict}
-use Rattle.cfs_meaning.specs.Files.{Defers, clear_way, defers, faults, has_posted, in_the_way, move_by, opened, opened_to_read, read_or_sync, say_served, serve_helped, serve_posted, serves}
+use Rattle.cfs_meaning.specs.World.{Descriptor, Down, Failed, File, Phase, Up, World, block_of, core_in, descriptor_in, file_in, find_file, new_file, with_core}
+use Rattle.cfs_meaning.specs.Inode.{Ready, admit_read, drop_read, first_of, holder, serve, serve_verdict}
+use Rattle.cfs_meaning.specs.Files.{Defers, clear_way, defers, faults, in_the_way, move_by, opened, opened_to_read, read_or_sync, say_served, serve_helped, serve_posted, serves}
 use Rattle.cfs_meaning.specs.Devices.{IsShown, NothingLive}
 use Rattle.cfs_meaning.specs.Play.{up, while_up}
-use Rattle.cfs_meaning.specs.Ways.{Fault, Halt, Mends, Repeats, Says, Waits, Way, breaks, breaks_later, counts, known, mends, rests, says, steps, unless_fault, waits, well, ◌>>=◌}
+use Rattle.cfs_meaning.specs.Ways.{Fault, Halt, Mends, Repeats, Says, Waits, Way, breaks, breaks_later, counts, mends, rests, says, steps, waits, well, ◌>>=◌}
 use Rattle.cfs_meaning.proofs.Hoare.{Leaves, leave-changes, leave-end, leave-event, leave-give, leave-known, leave-look, leave-refuse, leave-then, leave-tries, leave-unless, leave-weaker}
-use Rattle.cfs_meaning.proofs.ShownFiles.{asked-shown, event-shown, file-shown, files-map, none-replaced}
+use Rattle.cfs_meaning.proofs.ShownFiles.{asked-shown, event-shown, files-map, none-replaced}
 use Rattle.cfs_meaning.proofs.ShownJobs.{AreReads, IsAskedOf, reads-only}
 use Rattle.cfs_meaning.proofs.ShownParts.{Keeps, any-give, any-look, moved-shown, same-shown}
 use Rattle.cfs_meaning.proofs.Total.{IfEnds, with_attempt}
@@ -63,7 +61,8 @@ place-dead core dead place = by-test (place == 0)
     by-test true = refl
     by-test false = elim (cases_lt (place - 1) (length core.tracks)) [
       | inl low ↦ any_none (λ t. is_live t.state) core.tracks (place - 1) dead low
-      | inr past ↦ ap (λ (t : Track). is_live t.state) (get_or_past core.tracks (place - 1) blank past)
+      | inr past ↦ ap (λ (t : Track). is_live t.state)
+          (get_or_past core.tracks (place - 1) blank past)
     ]
 
 no-block : (s : State) (k : ℕ) → is_live s ≡ false → has_block s k ≡ false
@@ -101,7 +100,8 @@ core-behind : (world : World) (ino : ℕ) (core : Core) (P : Core → Type 0) �
     P core → P (core_in world ino) → P (core_in (with_core ino core world) ino)
 core-behind world ino core P shown new old = by-find (find_file world ino) refl
   where
-    by-find : (o : Option File) → find_file world ino ≡ o → P (core_in (with_core ino core world) ino)
+    by-find : (o : Option File) → find_file world ino ≡ o →
+        P (core_in (with_core ino core world) ino)
     by-find (Some f) is = subst P (sym (core-given world ino core f is)) new
     by-find None is =
         let number : (file_in world ino).ino ≡ 0 = ap (λ o. (unwrap_or o (new_file 0 0)).ino) is in
@@ -126,13 +126,13 @@ admit-reading d c line request =
     leave-look (λ x.
     leave-then {Q = λ u. Reading d.grant.ino}
     (leave-event (λ w holds may_be. (
-    event-shown w d.grant.ino (events.AdmitRead (entry_of d c line request x)) may_be
-        (λ i core devices shows allowed.
-        reads-may-come i core (entry_of d c line request x) devices shows allowed) holds.1.0,
-    core-behind w d.grant.ino
-        (after (core_in w d.grant.ino) (events.AdmitRead (entry_of d c line request x))) NothingLive
-        holds.1.0
-        (read-dead (core_in w d.grant.ino) (entry_of d c line request x) holds.1.1) holds.1.1,
+      event-shown w d.grant.ino (events.AdmitRead (entry_of d c line request x)) may_be
+          (λ i core devices shows allowed.
+          reads-may-come i core (entry_of d c line request x) devices shows allowed) holds.1.0,
+      core-behind w d.grant.ino
+          (after (core_in w d.grant.ino) (events.AdmitRead (entry_of d c line request x)))
+          NothingLive holds.1.0
+          (read-dead (core_in w d.grant.ino) (entry_of d c line request x) holds.1.1) holds.1.1,
     ))) (λ u.
     leave-then {Q = λ v. Reading d.grant.ino}
     (leave-changes (λ w holds. (same-shown w _ refl refl refl holds.0, holds.1))) (λ v.
@@ -144,10 +144,13 @@ clear-reading : (ino place : ℕ) →
     Leaves (Reading ino) (λ more w. (more ≡ false) × Reading ino w) IsShown (clear_way ino place)
 clear-reading ino place =
     leave-look (λ x.
-    record { by = λ old end new holds way. by-verdict x old end new holds
-        (subst (λ v. in_the_way ino place v x old end new)
-        (way-free (core_in x ino) place (subst (λ v. NothingLive (core_in v ino)) holds.0 holds.1.1))
-        way) })
+    record {
+      by = λ old end new holds way. by-verdict x old end new holds
+          (subst (λ v. in_the_way ino place v x old end new)
+          (way-free (core_in x ino) place
+          (subst (λ v. NothingLive (core_in v ino)) holds.0 holds.1.1))
+          way);
+    })
   where
     free : (x : World) →
         Leaves (λ w. (w ≡ x) × Reading ino w) (λ more w. (more ≡ false) × Reading ino w) IsShown
@@ -298,8 +301,11 @@ open-reading : (c fd : ℕ) →
 open-reading c fd =
     leave-look (λ x.
     leave-weaker {P = λ w. (w ≡ x) × ReadsOpen c fd w} (λ w holds. holds)
-    (λ d w q. (q.1.1.0, q.1.1.1 d
-    (ap (λ (v : World). descriptor_in v c fd) q.1.0 ∙ q.0))) (λ w e. e)
+    (λ d w q. (
+      q.1.1.0,
+      q.1.1.1 d
+          (ap (λ (v : World). descriptor_in v c fd) q.1.0 ∙ q.0),
+    )) (λ w e. e)
     (leave-known (descriptor_in x c fd) _ (λ w holds. holds.1.0)))
 
 to-reading : (c fd : ℕ) →

@@ -116,11 +116,11 @@ pub total-event : {P : World → Type 0} {Q : (Unit {0}) → World → Type 0} {
     Total P Q E (event ino e)
 total-event {ino = ino} {e = e} may_be kept = record {
   by = λ old holds. (
-      Ok tt,
-      with_core ino (after (core_in old ino) e) old,
-      comes (may_be old holds),
-      kept old holds,
-    );
+    Ok tt,
+    with_core ino (after (core_in old ino) e) old,
+    comes (may_be old holds),
+    kept old holds,
+  );
 }
 
 -- ---- cases

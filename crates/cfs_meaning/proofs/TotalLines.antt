@@ -1,34 +1,32 @@
 -- Lines that have an answer.
-use Rattle.std.proofs.Common.{◌≡◌, ℕ, ◌+◌, ◌<◌, Bool, true, false, not, ◌&&◌, Option, Some, None, List, length, refl, sym, ap, ◌∙◌, subst}
-use Rattle.std.specs.Prelude.{Result, Ok, Err, ◌==◌, is_some}
+use Rattle.std.proofs.Common.{◌≡◌, ℕ, ◌+◌, Bool, true, false, not, ◌&&◌, Option, Some, None, length, refl, sym, ap, ◌∙◌, subst}
+use Rattle.std.specs.Prelude.{◌==◌, is_some}
 use Rattle.std.proofs.lemmas.Bool.{eq-eqb}
-use Rattle.cfs_file.specs.declared.entry.Entry.{Entry}
 use Rattle.cfs_file.specs.declared.request.Request.{Request}
-use Rattle.cfs_file.specs.declared.request.Request.TheVariants as requests
 use Rattle.cfs_core.specs.declared.doubt.Doubt.{Doubt}
 use Rattle.cfs_core.specs.declared.event.Event.TheVariants as events
 use Rattle.cfs_core.specs.declared.inode_core.Core.{Core}
 use Rattle.cfs_core.specs.May.{is_query, may, may_dispatch}
 use Rattle.cfs_core.specs.Words.{is_noop, track}
 use Rattle.cfs_cred.specs.declared.credential.Credential.{Credential}
-use Rattle.cfs_requests.specs.Steps.{NameRequest, makes_directory, moves_node, opens_file, removes_directory, unlinks_file}
+use Rattle.cfs_requests.specs.Steps.{makes_directory, moves_node, opens_file, removes_directory, unlinks_file}
 use Rattle.cfs_print.specs.declared.printed.Printed.{Printed}
 use Rattle.cfs_script.specs.declared.form.Form.{Form}
 use Rattle.cfs_script.specs.declared.form.Form.TheVariants as forms
 use Rattle.cfs_words.specs.declared.device.Device.{Device}
 use Rattle.cfs_words.specs.declared.seek.Seek.{Seek}
 use Rattle.cfs_meaning.specs.World.{Descriptor, Down, Failed, Phase, Up, World, core_in}
-use Rattle.cfs_meaning.specs.Inode.{Absent, Behind, Ready, Verdict, admit_read, dispatch, settle, settle_doubt, skip, try_to_close, verdict}
+use Rattle.cfs_meaning.specs.Inode.{Absent, Behind, Ready, Verdict, admit_read, dispatch, settle, settle_doubt, skip, verdict}
 use Rattle.cfs_meaning.specs.Files.{list_queue, lseek, opened, opened_to_read, post}
-use Rattle.cfs_meaning.specs.Workers.{dispatch_by, dispatch_line, settle_line, skip_line, there}
+use Rattle.cfs_meaning.specs.Workers.{dispatch_by, dispatch_line, settle_line, skip_line}
 use Rattle.cfs_meaning.specs.Mounting.{mount_steps}
 use Rattle.cfs_meaning.specs.Answered.{HasRoom, LinesHaveAnswers, helps_none}
-use Rattle.cfs_meaning.specs.Play.{by, does, mount, mount_line, plan, printed, steps_so, told, up, while_up}
-use Rattle.cfs_meaning.specs.Ways.{Now, Way, now, ◌>>=◌}
+use Rattle.cfs_meaning.specs.Play.{by, does, mount, mount_line, plan, printed, steps_so, up}
+use Rattle.cfs_meaning.specs.Ways.{Way}
 use Rattle.cfs_meaning.proofs.Keeping.{AreUncrashed}
 use Rattle.cfs_meaning.proofs.Quiet.{core-up}
-use Rattle.cfs_meaning.proofs.Total.{Total, total-changes, total-each, total-end, total-event, total-give, total-known, total-look, total-refuse, total-steps, total-then, total-tries, total-unless, total-weaker, total-when}
-use Rattle.cfs_meaning.proofs.TotalNames.{Ever, Fits, Free, True, free-from, free-steps, total-ask, total-ask-purge, total-made, total-named, total-open}
+use Rattle.cfs_meaning.proofs.Total.{Total, total-changes, total-each, total-end, total-event, total-give, total-look, total-refuse, total-then, total-tries, total-unless, total-weaker, total-when}
+use Rattle.cfs_meaning.proofs.TotalNames.{Ever, Free, True, free-from, free-steps, total-ask, total-ask-purge, total-made, total-named, total-open}
 use Rattle.cfs_meaning.proofs.TotalParts.{Sound, any-known, any-refuse, total-any, total-now, total-there, total-told, total-up}
 use Rattle.cfs_meaning.proofs.TotalTrims.{total-trim-line}
 use Rattle.cfs_meaning.proofs.Uncrashed.{mounted-up, runs-up}
@@ -88,14 +86,14 @@ total-read d c line request query =
     total-look (λ x.
     total-then {Q = Ever} (total-event
     (λ w holds. subst (λ v. may (core_in v d.grant.ino) (events.AdmitRead (record {
-          ino = d.grant.ino;
-          place = length (core_in x d.grant.ino).log + 1;
-          caller = c;
-          line = line;
-          request = request;
-        })) ≡ true) (sym holds.0)
-        (next-may (core_in x d.grant.ino) d.grant.ino c line request query
-        (core-up x d.grant.ino (subst Sound holds.0 holds.1))))
+      ino = d.grant.ino;
+      place = length (core_in x d.grant.ino).log + 1;
+      caller = c;
+      line = line;
+      request = request;
+    })) ≡ true) (sym holds.0)
+    (next-may (core_in x d.grant.ino) d.grant.ino c line request query
+    (core-up x d.grant.ino (subst Sound holds.0 holds.1))))
     (λ w holds. tt)) (λ u.
     total-then {Q = Ever} (total-changes (λ w holds. tt)) (λ v. total-give (λ w holds. tt))))
 
@@ -124,8 +122,11 @@ total-dispatch-by ino place x (Behind q) is = total-end (λ w holds. tt)
 total-dispatch-by ino place x Ready is =
     total-then {Q = Ever}
     (total-weaker
-    (λ w holds. (holds.1, subst (λ v. may_dispatch (core_in v ino) place ≡ true) (sym holds.0)
-        (ready-may (core_in x ino) place is)))
+    (λ w holds. (
+      holds.1,
+      subst (λ v. may_dispatch (core_in v ino) place ≡ true) (sym holds.0)
+          (ready-may (core_in x ino) place is),
+    ))
     (λ u w q. tt) (λ w e. tt) (total-dispatch ino place)) (λ u.
     total-any (λ y. total-give (λ w holds. tt)))
 
@@ -147,7 +148,7 @@ total-skip ino place =
     (total-unless closed (λ w holds. holds) (λ w holds. tt)) (λ u.
     total-then {Q = Ever} (total-event
     (λ w holds. ap (λ b. not b && is_noop (track (core_in w ino).tracks place).state)
-        (core-up w ino holds.0) ∙ holds.1)
+    (core-up w ino holds.0) ∙ holds.1)
     (λ w holds. tt)) (λ v. total-changes (λ w holds. tt))))
 
 is-noop : (test : Bool) → not test ≡ false → test ≡ true
@@ -160,8 +161,11 @@ total-skip-line ino place =
     total-look (λ x.
     total-then {Q = λ v. Idle ino place}
     (total-weaker {P = λ w. (w ≡ x) × Sound w} (λ w holds. holds)
-    (λ v w q. (q.1.1, is-noop _ (subst
-        (λ y. not (is_noop (track (core_in y ino).tracks place).state) ≡ false) (sym q.1.0) q.0)))
+    (λ v w q. (
+      q.1.1,
+      is-noop _ (subst
+          (λ y. not (is_noop (track (core_in y ino).tracks place).state) ≡ false) (sym q.1.0) q.0),
+    ))
     (λ w e. e)
     (total-refuse (not (is_noop (track (core_in x ino).tracks place).state)) _ (λ w holds. tt)))
     (λ v.
@@ -181,7 +185,7 @@ total-doubt ino (Some doubt) =
     (total-unless closed (λ w holds. holds) (λ w holds. tt)) (λ u.
     total-then {Q = Ever} (total-event
     (λ w holds. ap (λ b. not b && is_some (core_in w ino).doubt) (core-up w ino holds.0)
-        ∙ holds.1)
+    ∙ holds.1)
     (λ w holds. tt)) (λ v. total-changes (λ w holds. tt))))
 
 pub total-settle : (ino : ℕ) → Total Sound Ever True (settle ino)

@@ -1,5 +1,5 @@
 -- What is done to the tree comes to an end.
-use Rattle.std.proofs.Common.{◌≡◌, ℕ, ◌+◌, ◌<◌, Bool, true, false, Option, Some, None, List, [], ◌∷◌, refl, sym, ap, ◌∙◌, subst, if◌then◌else◌}
+use Rattle.std.proofs.Common.{◌≡◌, ℕ, ◌+◌, Bool, true, false, Option, Some, None, List, [], ◌∷◌, subst, if◌then◌else◌}
 use Rattle.std.specs.Prelude.{Result, Ok, Err, ◌==◌, nat_lt, not}
 use Rattle.std.proofs.lemmas.Bool.{lt-ltb}
 use Rattle.cfs_dir.specs.declared.change.Change.{Change}
@@ -11,10 +11,9 @@ use Rattle.cfs_requests.specs.declared.name_refusal.NameRefusal.{NameRefusal}
 use Rattle.cfs_requests.specs.declared.opening.Opening.{Opening}
 use Rattle.cfs_requests.specs.declared.opening.Opening.TheVariants.{Found, Made}
 use Rattle.cfs_requests.specs.Looks.{makes, moves, opens, removes, unlinks}
-use Rattle.cfs_requests.specs.Steps.{NameAnswer, NameRequest, Names, Step, closes_queue, done, granted, make_step, makes_directory, moves_node, numbered, open_step, opens_file, removes_directory, unlinks_file}
+use Rattle.cfs_requests.specs.Steps.{NameAnswer, NameRequest, Step, closes_queue, done, granted, make_step, makes_directory, moves_node, numbered, open_step, opens_file, removes_directory, unlinks_file}
 use Rattle.cfs_cred.specs.declared.credential.Credential.{Credential}
 use Rattle.cfs_words.specs.declared.flags.Flags.{Flags}
-use Rattle.cfs_print.specs.declared.printed.Printed.{Printed}
 use Rattle.cfs_meaning.specs.NameSteps.{Order, changes_of, made_changes, moved_changes, opening_changes, removed_changes, stands, step_of}
 use Rattle.cfs_meaning.specs.World.{World, file_in}
 use Rattle.cfs_meaning.specs.Inode.{clear_size, is_size_right, purge, untag}
@@ -233,7 +232,8 @@ free-purge ino =
     total-changes (λ w holds. tt)))))
 
 pub total-purges : {P : World → Type 0} → Total P Ever True purge_all
-total-purges = total-look (λ w. free-from (total-each (dying w) (λ ino. total-shrugs (free-purge ino))))
+total-purges =
+    total-look (λ w. free-from (total-each (dying w) (λ ino. total-shrugs (free-purge ino))))
 
 pub total-ask-purge : (c line : ℕ) (request : NameRequest) →
     Total HasRoom Ever True (ask_and_purge c line request)

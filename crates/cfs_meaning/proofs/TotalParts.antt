@@ -1,6 +1,6 @@
 -- Parts of lines that come to an end, whatever the line is.
-use Rattle.std.proofs.Common.{◌≡◌, ℕ, Bool, Option, Some, refl}
-use Rattle.std.specs.Prelude.{Result, Ok, Err}
+use Rattle.std.proofs.Common.{◌≡◌, ℕ, Bool, Option, refl}
+use Rattle.std.specs.Prelude.{Ok}
 use Rattle.cfs_print.specs.declared.printed.Printed.{Printed}
 use Rattle.cfs_meaning.specs.World.{Down, Failed, Phase, Up, World}
 use Rattle.cfs_meaning.specs.Workers.{there}

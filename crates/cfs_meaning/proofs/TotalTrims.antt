@@ -1,6 +1,6 @@
 -- Blocks are given up until none is left.
-use Rattle.std.proofs.Common.{◌≡◌, ℕ, zero, suc, ◌+◌, ◌<◌, Bool, true, false, not, ◌&&◌, Option, Some, None, List, [], ◌∷◌, length, map, get_or, set, refl, sym, ap, ◌∙◌, subst, cond, if◌then◌else◌, arith}
-use Rattle.std.specs.Prelude.{Result, Ok, Err, ◌==◌, find, unwrap_or, replicate, nat_lt}
+use Rattle.std.proofs.Common.{◌≡◌, ℕ, zero, suc, ◌<◌, Bool, true, false, not, ◌&&◌, Option, Some, None, List, [], ◌∷◌, map, get_or, set, refl, sym, ap, ◌∙◌, subst, cond, if◌then◌else◌, arith}
+use Rattle.std.specs.Prelude.{◌==◌, find, unwrap_or, replicate, nat_lt}
 use Rattle.std.specs.List.{range_with_len}
 use Rattle.std.proofs.lemmas.Bool.{and_parts, eq-eqb, eqb-false, eqb-true, ne_eqb}
 use Rattle.cfs_file.specs.declared.sizes.TheConstants.{FILE_BLOCKS}
@@ -9,18 +9,17 @@ use Rattle.cfs_core.specs.declared.flag.Flag.{Flag}
 use Rattle.cfs_core.specs.declared.flag.Flag.TheVariants.{Off, On, Unsure}
 use Rattle.cfs_core.specs.declared.inode_core.Core.{Core}
 use Rattle.cfs_core.specs.After.{after}
-use Rattle.cfs_core.specs.May.{may, may_trim}
+use Rattle.cfs_core.specs.May.{may_trim}
 use Rattle.cfs_core.specs.Words.{is_off}
 use Rattle.cfs_core_laws.proofs.Finds.{find-passes}
 use Rattle.cfs_meaning.specs.World.{File, World, block_of, core_in, file_in, find_file, new_file, replaces, with_core}
 use Rattle.cfs_meaning.specs.Inode.{give_block, trim, trim_at, without_block}
 use Rattle.cfs_meaning.specs.Workers.{trim_line}
 use Rattle.cfs_meaning.specs.Ways.{Repeats, unless_fault}
-use Rattle.cfs_meaning.proofs.Keeping.{AreUncrashed}
 use Rattle.cfs_meaning.proofs.Quiet.{core-up, replaced-up}
-use Rattle.cfs_meaning.proofs.Total.{Falls, IfEnds, Total, total-changes, total-end, total-event, total-give, total-look, total-repeats, total-then, total-tries, total-unless, total-weaker}
+use Rattle.cfs_meaning.proofs.Total.{Falls, Total, total-changes, total-end, total-event, total-give, total-look, total-repeats, total-then, total-tries, total-weaker}
 use Rattle.cfs_meaning.proofs.TotalNames.{Ever, True}
-use Rattle.cfs_meaning.proofs.TotalParts.{Sound, total-any, total-there}
+use Rattle.cfs_meaning.proofs.TotalParts.{Sound, total-there}
 use Rattle.cfs_meaning.proofs.Uncrashed.{after-up}
 
 -- ---- the core behind an event
@@ -56,7 +55,8 @@ found-number ino [] f is = absurd (cc)
 found-number ino (g ∷ files) f is =
     pick (g.ino == ino) refl (λ later. found-number ino files f later) is
   where
-    pick : (b : Bool) → (g.ino == ino) ≡ b → (find (λ h. h.ino == ino) files ≡ Some f → f.ino ≡ ino) →
+    pick : (b : Bool) → (g.ino == ino) ≡ b →
+        (find (λ h. h.ino == ino) files ≡ Some f → f.ino ≡ ino) →
         cond b (Some g) (find (λ h. h.ino == ino) files) ≡ Some f → f.ino ≡ ino
     pick true here rest now =
         let same : g ≡ f = cc in ap (λ (h : File). h.ino) (sym same) ∙ eqb-true g.ino ino here
@@ -129,7 +129,8 @@ trim-kept : (world : World) (ino k : ℕ) → Sound world → may_trim (core_in 
     < Left ino world
 trim-kept world ino k sound may_be =
     let found = trim-found world ino k may_be in
-    let same = core-given world ino (after (core_in world ino) (events.Trim k true)) found.0 found.1 in
+    let same = core-given world ino (after (core_in world ino) (events.Trim k true)) found.0
+    found.1 in
     subst (λ core. tagged_count core.tags < Left ino world) (sym same)
     (fewer (core_in world ino).tags k (trim-tagged (core_in world ino) k may_be))
 
@@ -186,18 +187,23 @@ total-trim-at ino n x None is =
 total-trim-at ino n x (Some k) is =
     total-look (λ y.
     total-then {Q = λ kept. Trims ino k n}
-    (total-tries (λ w holds. (holds.1.1.0, holds.1.1.1,
-    subst (λ v. may_trim (core_in v ino) k ≡ true) (sym holds.1.0)
-    (find-passes (may_trim (core_in x ino)) 0 FILE_BLOCKS k is)))) (λ kept.
+    (total-tries (λ w holds. (
+      holds.1.1.0,
+      holds.1.1.1,
+      subst (λ v. may_trim (core_in v ino) k ≡ true) (sym holds.1.0)
+          (find-passes (may_trim (core_in x ino)) 0 FILE_BLOCKS k is),
+    ))) (λ kept.
     total-then {Q = λ u. Trimmed ino n kept}
     (total-event (λ w holds. ap (λ b. not b && may_trim (core_in w ino) k)
     (core-up w ino holds.0) ∙ holds.2) (λ w holds. trim-event ino k n kept w holds)) (λ u.
     total-then {Q = λ v w. (kept ≡ true) × Trimmed ino n kept w} (went-well kept) (λ v.
     total-then {Q = λ t w. Sound w × (Left ino w < n)}
     (total-changes (λ w holds. (
-    give-sound ino k (unwrap_or (block_of (file_in y ino) k) 0) w holds.1.0,
-    (let same = give-left ino k (unwrap_or (block_of (file_in y ino) k) 0) w holds.1.1.0 holds.1.1.1 in
-    let less = holds.1.2 holds.0 in omega (arith, same, less))))) (λ t.
+      give-sound ino k (unwrap_or (block_of (file_in y ino) k) 0) w holds.1.0,
+      (let same = give-left ino k (unwrap_or (block_of (file_in y ino) k) 0) w holds.1.1.0
+          holds.1.1.1 in
+          let less = holds.1.2 holds.0 in omega (arith, same, less)),
+    ))) (λ t.
     total-give (λ w holds. (holds.0, λ more. holds.1)))))))
   where
     went-well : (kept : Bool) → Total (Trimmed ino n kept)

@@ -1,5 +1,6 @@
 -- No line leaves a core as one that a crash left.
-use Rattle.std.proofs.Common.{◌≡◌, ℕ, Bool, true, false, List, [], ◌∷◌, map, Option, Some, None, refl, sym, subst, if◌then◌else◌}
+use Rattle.std.proofs.Common.{◌≡◌, ℕ, Bool, true, false, List, [], ◌∷◌, map, Option, Some, None, refl, if◌then◌else◌}
+use Rattle.std.specs.Prelude.{Result}
 use Rattle.std.specs.List.{flat_map}
 use Rattle.cfs_core.specs.declared.event.Event.{Event}
 use Rattle.cfs_core.specs.declared.event.Event.TheVariants as events
@@ -11,6 +12,7 @@ use Rattle.cfs_dir.specs.declared.change.Change.{Change}
 use Rattle.cfs_dir.specs.declared.change.Change.TheVariants as changes
 use Rattle.cfs_dir.specs.declared.node.Node.{Node}
 use Rattle.cfs_dir.specs.Namespace.{is_directory}
+use Rattle.cfs_print.specs.declared.printed.Printed.{Printed}
 use Rattle.cfs_script.specs.declared.form.Form.{Form}
 use Rattle.cfs_script.specs.declared.line.Line.{Line}
 use Rattle.cfs_print.specs.declared.out_line.OutLine.{OutLine}
@@ -18,13 +20,12 @@ use Rattle.cfs_meaning.specs.Drive.{Drive}
 use Rattle.cfs_meaning.specs.Mounting.{files_of, mounted_file, mounted_world, recovered_tree}
 use Rattle.cfs_meaning.specs.NameSteps.{changes_of}
 use Rattle.cfs_meaning.specs.Names.{files_made}
-use Rattle.cfs_meaning.specs.World.{Caller, Down, Failed, File, Phase, Up, World, core_in, new_file}
-use Rattle.cfs_meaning.specs.Laws.{IsGiven, is_mount}
-use Rattle.cfs_meaning.specs.Play.{Run, Step, does, goes_on, mount, mount_line, run_ends, steps_so}
-use Rattle.cfs_meaning.proofs.Keeping.{Any, AreUncrashed, Keeps, keep-give, keep-look, keep-say, keep-then}
+use Rattle.cfs_meaning.specs.World.{Caller, World, core_in, new_file}
+use Rattle.cfs_meaning.specs.Play.{Run, does}
+use Rattle.cfs_meaning.specs.Ways.{Halt}
+use Rattle.cfs_meaning.proofs.Keeping.{Any, AreUncrashed}
 use Rattle.cfs_meaning.proofs.Kept.{IsOfLine}
-use Rattle.cfs_meaning.proofs.KeptLines.{IsGivenIfAny}
-use Rattle.cfs_meaning.proofs.Lines.{Powers, kept-form, kept-home, only-mount}
+use Rattle.cfs_meaning.proofs.Lines.{Mounts, Powers, kept-each, kept-run}
 use Rattle.cfs_meaning.proofs.Quiet.{core-up, joined-up, replaced-up}
 use Rattle.cfs_meaning.proofs.Worlds.{NameLaw, WorldLaw, law_of, moves, requests_of}
 
@@ -108,43 +109,18 @@ pub mounted-up : (callers : List Caller) (drive : Drive) →
     AreUncrashed (mounted_world callers drive).files
 mounted-up callers drive = found-up drive (files_of (recovered_tree drive))
 
-kept-mount : (line : ℕ) → Keeps (law_of (up_law line)).base IsGiven mount
-kept-mount line =
-    keep-look (λ w.
-    keep-then (record { means = moves (up_law line).fact (λ here holds. holds) }) (λ u a.
-    keep-then (kept-home (law_of (up_law line)).base) (λ u a.
-    keep-then (record {
-      means = moves (up_law line).fact (λ here holds. mounted-up here.callers here.drive);
-    }) (λ u a.
-    keep-give tt))))
+up-mounts : (line : ℕ) → Mounts (up_law line)
+up-mounts line = record {
+  fails = λ world holds. holds;
+  leaves = λ world holds. mounted-up world.callers world.drive;
+}
 
-kept-phase : (line : ℕ) (phase : Phase) →
-    Keeps (law_of (up_law line)).base IsGiven (mount_line phase)
-kept-phase line Up = keep-say tt
-kept-phase line Down = kept-mount line
-kept-phase line Failed = keep-say tt
-
-kept-line : (line : ℕ) (form : Form) →
-    Keeps (law_of (up_law line)).base IsGivenIfAny (does line form)
-kept-line line form = by-kind (is_mount form) refl
-  where
-    by-kind : (mounts : Bool) → is_mount form ≡ mounts →
-        Keeps (law_of (up_law line)).base IsGivenIfAny (does line form)
-    by-kind false is =
-        kept-form (law_of (up_law line)) (requests_of (up_law line) (up-names line))
-        (up-powers line) form is
-    by-kind true is =
-        subst (λ f. Keeps (law_of (up_law line)).base IsGivenIfAny (does line f))
-        (sym (only-mount form is))
-        (keep-then (keep-look (λ w. kept-phase line w.phase)) (λ answer given. keep-give given))
-
-step-up : {old new : World} {line : Line} {out : List OutLine} → Step line old out new →
-    AreUncrashed old.files → AreUncrashed new.files
-step-up {old} {new} {line} (steps_so end way) holds =
-    ((kept-line line.number line.form).means.by old end new holds way).1
+line-up : (line : ℕ) (form : Form) (old : World) (end : Result (Option Printed) Halt)
+    (new : World) → AreUncrashed old.files → does line form old end new → AreUncrashed new.files
+line-up line form old end new holds way =
+    ((kept-each (up_law line) (requests_of (up_law line) (up-names line)) (up-powers line)
+    (up-mounts line) form).means.by old end new holds way).1
 
 pub runs-up : (old new : World) (lines : List Line) (outs : List OutLine) →
     Run old lines outs new → AreUncrashed old.files → AreUncrashed new.files
-runs-up old new [] outs run_ends holds = holds
-runs-up old new (line ∷ lines) outs (goes_on {mid = mid} {later = later} step rest) holds =
-    runs-up mid new lines later rest (step-up step holds)
+runs-up = kept-run (λ w. AreUncrashed w.files) line-up

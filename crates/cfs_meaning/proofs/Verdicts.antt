@@ -1,10 +1,8 @@
 -- An entry with nothing in its way may be dispatched.
-use Rattle.std.proofs.Common.{◌≡◌, ℕ, zero, suc, ◌+◌, ◌-◌, ◌<◌, Bool, true, false, not, ◌&&◌, ◌||◌, Option, Some, None, List, [], ◌∷◌, ◌++◌, length, map, take, get_or, refl, sym, ap, ◌∙◌, subst, cond, if◌then◌else◌, arith}
-use Rattle.std.specs.Prelude.{find, ◌==◌}
+use Rattle.std.proofs.Common.{◌≡◌, ℕ, zero, suc, ◌+◌, ◌-◌, ◌<◌, Bool, true, false, not, ◌&&◌, ◌||◌, Option, Some, None, List, [], ◌∷◌, ◌++◌, length, map, take, get_or, refl, sym, ap, ◌∙◌, subst, if◌then◌else◌, arith}
 use Rattle.std.specs.Option.{option_to_list}
-use Rattle.std.specs.List.{list_any, range_with_len}
+use Rattle.std.specs.List.{list_any}
 use Rattle.std.proofs.lemmas.Bool.{or_parts}
-use Rattle.cfs_file.specs.declared.span.Span.{Span}
 use Rattle.cfs_file.specs.Span.{meets}
 use Rattle.cfs_core.specs.declared.inode_core.Core.{Core}
 use Rattle.cfs_core.specs.declared.state.Lease.{Lease}
@@ -12,10 +10,10 @@ use Rattle.cfs_core.specs.declared.state.Job.{Job}
 use Rattle.cfs_core.specs.declared.track.Track.{Track}
 use Rattle.cfs_core.specs.Jobs.{is_taken, next_job}
 use Rattle.cfs_core.specs.May.{has_live_in, has_read_in, may_dispatch}
-use Rattle.cfs_core.specs.Words.{blank, has_block, is_lent, is_live, is_unserved, is_waiting, track}
+use Rattle.cfs_core.specs.Words.{blank, has_block, is_live, is_unserved, is_waiting, track}
 use Rattle.cfs_core_laws.proofs.Finds.{find-none}
 use Rattle.cfs_core_laws.proofs.Lent.{track-next}
-use Rattle.cfs_meaning.specs.Inode.{Absent, Behind, Ready, Verdict, first_before, first_of, holder, leases, verdict}
+use Rattle.cfs_meaning.specs.Inode.{Absent, Ready, Verdict, first_before, first_of, holder, leases, verdict}
 
 -- ---- tests of lists
 
@@ -79,7 +77,8 @@ none-has : (state_has : ℕ → Bool) (one other : Option Lease) →
 none-has state_has None other none lease is = absurd (cc)
 none-has state_has (Some first) other none lease is =
     let same : first ≡ lease = cc in
-    subst (λ (l : Lease). state_has l.block ≡ false) same (or_parts (state_has first.block) _ none).0
+    subst (λ (l : Lease). state_has l.block ≡ false) same
+    (or_parts (state_has first.block) _ none).0
 
 none-alone : (state_has : ℕ → Bool) (other : Option Lease) →
     list_any state_has (map (λ (l : Lease). l.block) (option_to_list other)) ≡ false →
@@ -87,7 +86,8 @@ none-alone : (state_has : ℕ → Bool) (other : Option Lease) →
 none-alone state_has None none lease is = absurd (cc)
 none-alone state_has (Some first) none lease is =
     let same : first ≡ lease = cc in
-    subst (λ (l : Lease). state_has l.block ≡ false) same (or_parts (state_has first.block) _ none).0
+    subst (λ (l : Lease). state_has l.block ≡ false) same
+    (or_parts (state_has first.block) _ none).0
 
 none-other : (state_has : ℕ → Bool) (one other : Option Lease) →
     list_any state_has (map (λ (l : Lease). l.block) (option_to_list one ++ option_to_list other))

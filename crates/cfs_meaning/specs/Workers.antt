@@ -1,10 +1,12 @@
 -- The lines of workers, and the choice of the next piece of work.
-use Rattle.std.specs.Prelude.{ℕ, ◌+◌, ◌==◌, Bool, true, false, not, ◌&&◌, ◌||◌, if◌then◌else◌, min, Option, Some, None, List, [], ◌∷◌, length, filter, nat_lt, nat_le, is_none, is_some}
+use Rattle.std.specs.Prelude.{ℕ, ◌+◌, ◌==◌, Bool, true, false, not, ◌&&◌, ◌||◌, if◌then◌else◌, min, Option, Some, None, List, [], ◌∷◌, length, filter, nat_lt, is_none, is_some}
 use Rattle.std.specs.List.{flat_map, list_any, range_with_len}
 use Rattle.cfs_file.specs.Span.{meets}
 use Rattle.cfs_core.specs.declared.inode_core.Core.{Core}
 use Rattle.cfs_core.specs.Words.{is_noop, is_unserved, track}
 use Rattle.cfs_core.specs.May.{is_sync_at}
+use Rattle.cfs_sched.specs.declared.summary.Summary.{Summary}
+use Rattle.cfs_sched.specs.Choice.{urgency}
 use Rattle.cfs_print.specs.declared.printed.Printed.{Printed}
 use Rattle.cfs_print.specs.declared.printed.Printed.TheVariants.{Drained, Fine, Freed, Left, More, Nothing, Pending, Placed, Unfinished}
 use Rattle.cfs_meaning.specs.World.{File, World, all_placed, core_in, file_in, is_there, with_file}
@@ -65,13 +67,8 @@ settle_line ino = do
 -- ---- turns
 
 -- a piece of work: a no-op, or an entry that could be dispatched
-pub record Item : Type 0 where
-  pub rec : ℕ
-  pub ino : ℕ
-  pub place : ℕ
-  pub noop : Bool
-  pub read_waits : Bool
-  pub passed : ℕ
+abbrev pub Item : Type 0
+Item = Summary
 
 abbrev pub is_ready : Verdict → Bool
 is_ready Ready = true
@@ -111,15 +108,9 @@ work world =
     flat_map (λ rec. flat_map work_of (filter (λ f. f.rec == rec) world.files))
     (range_with_len 0 256)
 
--- What was passed over 64 times or more comes first, and of it what was passed over most; then what
--- a read waits for. Of equals the earlier item comes first.
-abbrev pub is_due : Item → Bool
-is_due x = nat_le 64 x.passed
-
+-- Of items as urgent the earlier one comes first.
 abbrev pub comes_first : Item → Item → Bool
-comes_first later earlier =
-    if is_due earlier then nat_lt earlier.passed later.passed
-    else (is_due later || (later.read_waits && not earlier.read_waits))
+comes_first later earlier = nat_lt (urgency earlier) (urgency later)
 
 abbrev pub best : Item → List Item → Item
 best x [] = x
