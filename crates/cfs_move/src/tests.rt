@@ -53,13 +53,11 @@ fn an_old_image_is_upgraded(rt: HostRuntime) -> Result<(), Fail> {
     let old = old_image(rt.alloc())?;
     let new = upgrade_bytes(rt.alloc(), &old)?;
     assert_eq!(rt; new.len(), 191_416);
-    let mut others = 0;
+    let mut same = true;
     for (at, byte) in new.as_slice().iter().enumerate() {
-        if *byte != wanted(&old, at) {
-            others += 1;
-        }
+        same = same && *byte == wanted(&old, at);
     }
-    assert_eq!(rt; others, 0);
+    assert!(rt; same);
     let medium = read_image(rt.alloc(), new.as_slice())?;
     assert!(rt; write_image(rt.alloc(), &medium)? == new);
     Ok(())
