@@ -1,3 +1,4 @@
 pub mod BlockCalls
 pub mod Held
 pub mod Sure
+pub mod Begins
