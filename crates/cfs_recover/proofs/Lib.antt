@@ -2,3 +2,4 @@ pub mod BlockCalls
 pub mod Held
 pub mod Sure
 pub mod Begins
+pub mod Brought
