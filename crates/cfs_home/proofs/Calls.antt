@@ -89,17 +89,6 @@ module _ {Form Image : Type 0} (IsImage_ : List Form → Image → Type 0) (P : 
   but-other (suc place) (seen ∷ rest) (image ∷ images) other h is =
       (h.0, but-other place rest images other h.1 is)
 
--- one image for each device
-each-at : (place : ℕ) (olds : List (Seen WordStep)) (images : List (List ℕ)) (d : List ℕ) →
-    place < length images → IsEachImage IsImage olds images →
-    IsImage (seen_at olds place).history (get_or images place d)
-each-at place [] [] d less h = absurd (omega arith)
-each-at place [] (image ∷ images) d less h = absurd h
-each-at place (seen ∷ rest) [] d less h = absurd h
-each-at zero (seen ∷ rest) (image ∷ images) d less h = h.0
-each-at (suc place) (seen ∷ rest) (image ∷ images) d less h =
-    each-at place rest images d (omega arith) h.1
-
 -- ---- a word is set
 
 -- what a crash leaves while the first word of a region is set: what it left before, or that with
@@ -159,7 +148,7 @@ set-of place word olds images h =
 
 -- ---- the disk behind it
 
-size-other : (words : List (List ℕ)) (place : ℕ) (image : List ℕ) (node : ℕ) →
+pub size-other : (words : List (List ℕ)) (place : ℕ) (image : List ℕ) (node : ℕ) →
     (node < 256 → 67 + node ≢ place) → size_in (set words place image) node ≡ size_in words node
 size-other words place image node differs = elim (cases_lt node 256) [
   | inl below ↦
@@ -179,7 +168,7 @@ size-other words place image node differs = elim (cases_lt node 256) [
         ap (λ (c : Bool). if c then get_or (get_or list (67 + node) []) 0 0 else 0) test
 
 -- a word that is set is read
-first-set : (words : List ℕ) (word : ℕ) → 0 < length words → get_or (set words 0 word) 0 0 ≡ word
+pub first-set : (words : List ℕ) (word : ℕ) → 0 < length words → get_or (set words 0 word) 0 0 ≡ word
 first-set words word some = get_or-set_same words 0 word 0 some
 
 size-own : (words : List (List ℕ)) (node : ℕ) (image : List ℕ) → node < 256 →

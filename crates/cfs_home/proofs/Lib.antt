@@ -4,3 +4,4 @@ pub mod Blocks
 pub mod Disks
 pub mod Ends
 pub mod Calls
+pub mod Behind

@@ -1,5 +1,5 @@
 -- The disk that a crash leaves of a store's devices, and calls of a mount on one of them.
-use Rattle.std.specs.Prelude.{ℕ, ◌+◌, ◌*◌, ◌<◌, ◌≤◌, ◌≡◌, if◌then◌else◌, List, [], drop, get_or, nat_lt}
+use Rattle.std.specs.Prelude.{ℕ, ◌+◌, ◌*◌, ◌<◌, ◌≤◌, ◌≡◌, ◌==◌, if◌then◌else◌, List, [], drop, get_or, nat_lt}
 use Rattle.cfs_file.specs.declared.request.Request.{Request}
 use Rattle.cfs_file.specs.declared.sizes.TheConstants.{BLOCK_LEN, FILE_BLOCKS}
 use Rattle.cfs_file.specs.Span.{Touches}
@@ -43,6 +43,11 @@ HaveWordsOf disk regions =
 abbrev pub HaveBlocksOf : Disk → List (Seen BlockStep) → Type 0
 HaveBlocksOf disk blocks =
     (contents : List Content) → IsEachImage IsBlockImage blocks contents → contents ≡ disk.blocks
+
+-- the disk with another size
+abbrev pub with_size : ℕ → ℕ → Disk → Disk
+with_size node size disk =
+    record disk { sizes = λ other. if other == node then size else disk.sizes other }
 
 -- ---- calls
 

@@ -7,14 +7,14 @@ use Rattle.cfs_core.specs.declared.inode_core.Core.{Core}
 use Rattle.cfs_core.specs.Fresh.{IsFresh}
 use Rattle.cfs_pmem.specs.declared.trace.Asked.{Asked}
 use Rattle.cfs_pmem.specs.AllMoments.{AreDistinct}
-use Rattle.cfs_pmem.specs.Images.{Seen, WordStep, words_of}
+use Rattle.cfs_pmem.specs.Images.{Seen, WordStep, kept, words_of, wrote}
 use Rattle.cfs_pmem.specs.Objects.{MomentsOf, seen_at}
 use Rattle.cfs_block.specs.BlockImages.{BlockStep, Content, DiffersWithin, IsBlockImage, with_tag}
 use Rattle.cfs_block.specs.Devices.{numbers_of}
 use Rattle.cfs_slot.specs.Words.{gate_of}
 use Rattle.cfs_medium.specs.Depicts.{content_at}
 use Rattle.cfs_medium.specs.Store.{block_for, entry_at}
-use Rattle.cfs_home.specs.Calls.{HaveBlocksOf, HaveWordsOf, IsPiece, MountMoments, SetsFirst, SetsTagAt}
+use Rattle.cfs_home.specs.Calls.{HaveBlocksOf, HaveWordsOf, IsPiece, MountMoments, SetsFirst, SetsTagAt, with_size}
 use Rattle.cfs_home.specs.Disks.{AllStay, AreFiles, AreReady, BlocksBeside, BlocksHold, ChangesBlock, ClosesSlot, Disk, File, IsDead, IsLowest, IsMapped, IsNoNode, IsNoTag, SetsSize, WritesBlocks, part_of, recovered_in, shut, stored_in}
 use Rattle.cfs_home.specs.Ends.{AreDrained, IsClosedOrLive, IsDrained, IsLoaded}
 use Rattle.cfs_home.specs.Parts.{BytesMoved, Closed, IsHome, IsPlaced, IsSound, Keeps, Part, SizeMoved, size_after}
@@ -204,3 +204,21 @@ PiecesAreBeside =
     BlocksBeside ino request first contents →
     DiffersWithin from len (content_at contents at) content →
     BlocksBeside ino request first (set contents at content)
+
+-- ---- what a crash leaves behind a call
+
+-- once a size word is set and persisted, the disk with that size alone
+abbrev pub SizesAreSet : Type 0
+SizesAreSet =
+    (node size : ℕ) (disk : Disk) (old : List (Seen WordStep)) (new : Seen WordStep) →
+    node < 256 → 67 + node < length old → 0 < length (words_of (seen_at old (67 + node))) →
+    HaveWordsOf disk old → new ≡ kept (wrote 0 size (seen_at old (67 + node))) →
+    HaveWordsOf (with_size node size disk) (set old (67 + node) new)
+
+-- once a gate is closed and persisted, the disk with that slot shut alone
+abbrev pub GatesAreClosed : Type 0
+GatesAreClosed =
+    (at : ℕ) (disk : Disk) (old : List (Seen WordStep)) (new : Seen WordStep) →
+    323 + at < length old → HaveWordsOf disk old →
+    new ≡ kept (wrote 0 0 (seen_at old (323 + at))) →
+    HaveWordsOf (record disk { slots = shut at disk.slots }) (set old (323 + at) new)

@@ -7,7 +7,7 @@
 //! `specs/Calls.antt` has the disk that a crash leaves of a store's devices, and calls on these.
 #![tactic(auto)]
 
-ghost use Rattle.cfs_home.specs.Laws.{ClosesKeepAll, ClosesMayStop, DeadSlotsMayClose, EndsAreClosed, EndsAreStored, HeldAreHome, LoadedAreFresh, LoadedAreThere, LoadedHaveBlocks, OtherBlocksMayChange, OtherSizesMayBeSet, PartsAreKept, PiecesAreBeside, ShutSlotsAreSwept, ShutSlotsLeaveOthers, SizesKeepAll, SizesMayStop, StaysGoOn, TagsMayStop, WritesKeepAll, WritesMayStop};
+ghost use Rattle.cfs_home.specs.Laws.{ClosesKeepAll, ClosesMayStop, DeadSlotsMayClose, EndsAreClosed, EndsAreStored, GatesAreClosed, HeldAreHome, LoadedAreFresh, LoadedAreThere, LoadedHaveBlocks, OtherBlocksMayChange, OtherSizesMayBeSet, PartsAreKept, PiecesAreBeside, ShutSlotsAreSwept, ShutSlotsLeaveOthers, SizesAreSet, SizesKeepAll, SizesMayStop, StaysGoOn, TagsMayStop, WritesKeepAll, WritesMayStop};
 
 /// Bytes of the lowest live entry may change, the size word may be set for it, and it may be closed
 /// once it is home: each step keeps the file that a mount finds.
@@ -118,4 +118,14 @@ pub fn closes_may_stop()
 /// And of the setting of a tag.
 pub fn tags_may_stop()
     ensures { TagsMayStop }
+{}
+
+/// Once a size word is set and persisted, a crash leaves the disk with that size alone.
+pub fn sizes_are_set()
+    ensures { SizesAreSet }
+{}
+
+/// Once a gate is closed and persisted, a crash leaves the disk with that slot shut alone.
+pub fn gates_are_closed()
+    ensures { GatesAreClosed }
 {}

@@ -191,6 +191,28 @@ flushes-stay (piece ∷ pieces) blocks at =
       | inr apart ↦ set-there blocks piece.at (kept (seen_at blocks piece.at)) at apart
     ]
 
+pub writes-full : (pieces : List Piece) (bytes : List ℕ) (blocks : List (Seen BlockStep)) →
+    AreFull blocks → AllLieWithin (length blocks) (length bytes) pieces →
+    AreFull (with_writes pieces bytes blocks)
+writes-full [] bytes blocks full within = full
+writes-full (piece ∷ pieces) bytes blocks full within =
+    writes-full pieces bytes (with_write piece.at piece.from (bytes_of piece bytes) blocks)
+    (still-full blocks piece bytes full within.0)
+    (still-within blocks piece.at piece.from (length bytes) (bytes_of piece bytes) pieces within.1)
+
+flushes-long : (pieces : List Piece) (blocks : List (Seen BlockStep)) →
+    length (with_flushes pieces blocks) ≡ length blocks
+flushes-long [] blocks = refl
+flushes-long (piece ∷ pieces) blocks =
+    flushes-long pieces (with_flush piece.at blocks)
+    ∙ length-set blocks piece.at (kept (seen_at blocks piece.at))
+
+pub flushes-full : (pieces : List Piece) (blocks : List (Seen BlockStep)) → AreFull blocks →
+    AreFull (with_flushes pieces blocks)
+flushes-full pieces blocks full k less =
+    ap (λ (c : Content). length c.bytes) (flushes-stay pieces blocks k)
+    ∙ full k (omega (arith, less, flushes-long pieces blocks))
+
 -- a position in a piece has its own byte behind the write
 own-inside : (ino : ℕ) (request : Request) (first : List Content) (piece : Piece)
     (bytes : List ℕ) (blocks : List (Seen BlockStep)) (at p : ℕ) → AreFull blocks →

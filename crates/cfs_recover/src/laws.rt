@@ -1,4 +1,5 @@
 //! What the calls come to, as contracts of functions that do nothing.
+ghost use Rattle.cfs_recover.specs.Brought.{BytesAreBrought};
 ghost use Rattle.cfs_recover.specs.Held.{PiecesHold};
 ghost use Rattle.cfs_recover.specs.Sure.{PiecesAreSure, SureBlocksAreOf};
 
@@ -15,4 +16,10 @@ pub fn pieces_are_sure()
 /// So it leaves the blocks of one disk alone.
 pub fn sure_blocks_are_of()
     ensures { SureBlocksAreOf }
+{}
+
+/// Once the pieces of the lowest entry are written and flushed, its bytes are brought home, and all
+/// else is as it was.
+pub fn bytes_are_brought()
+    ensures { BytesAreBrought }
 {}

@@ -6,11 +6,13 @@
 #![tactic(auto)]
 
 mod blocks;
+mod home;
 mod laws;
 mod piece;
 mod words;
 
 pub use blocks::{flush_block, flush_pieces, write_block, write_pieces};
-pub use laws::{pieces_are_sure, pieces_hold, sure_blocks_are_of};
+pub use home::bring_bytes;
+pub use laws::{bytes_are_brought, pieces_are_sure, pieces_hold, sure_blocks_are_of};
 pub use piece::Piece;
 pub use words::{close_gate, set_size};
