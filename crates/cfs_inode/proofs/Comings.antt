@@ -1,5 +1,5 @@
 -- A job comes back, and what the state knows of its place.
-use Rattle.std.proofs.Common.{◌≡◌, ◌≢◌, ◌∙◌, ◌<◌, ap, inl, inr, length, length-set, List, [], ◌∷◌, Option, None, Some, refl, subst, sym, ℕ, arith}
+use Rattle.std.proofs.Common.{◌≡◌, ◌≢◌, ◌∙◌, ◌<◌, ap, inl, inr, length, length-set, set, suc, zero, List, [], ◌∷◌, Option, None, Some, refl, subst, sym, ℕ, arith}
 use Rattle.cfs_file.specs.declared.sizes.TheConstants.{FILE_BLOCKS}
 use Rattle.cfs_pmem.specs.Images.{Seen, WordStep}
 use Rattle.cfs_block.specs.BlockImages.{BlockStep}
@@ -20,7 +20,7 @@ use Rattle.cfs_tracker.specs.Follows.{Follows}
 use Rattle.cfs_tracker.specs.View.{TrackerView, entry_at}
 use Rattle.cfs_tracker.proofs.Celling.{cell-beside, cell-here}
 use Rattle.cfs_inode.specs.Backs.{tile_back}
-use Rattle.cfs_inode.specs.Stands.{AllStand, AreHeld, IsBeside, IsHeld, JobStands, Stands, Together, slots_in}
+use Rattle.cfs_inode.specs.Stands.{AllStand, AreHeld, IsAtRest, IsBeside, IsHeld, JobStands, Stands, Together, slots_in}
 use Rattle.cfs_inode.specs.View.{Held, Seens, StateView}
 
 -- ---- the other jobs
@@ -121,6 +121,23 @@ kept-before old job core world stands out block seen less has =
     one-length (Some tile) =
         length-set old.tracker.cells tile.at (kinds.Home tile.seen)
 
+rest-at-home : (P : Cell (Seen BlockStep) → Type 0) (cells : List (Cell (Seen BlockStep)))
+    (at k : ℕ) (seen : Seen BlockStep) → P (kinds.Home seen) → P (cell_at cells k) →
+    P (cell_at (set cells at (kinds.Home seen)) k)
+rest-at-home P [] at k seen own rest = rest
+rest-at-home P (cell ∷ cells) zero zero seen own rest = own
+rest-at-home P (cell ∷ cells) zero (suc k) seen own rest = rest
+rest-at-home P (cell ∷ cells) (suc at) zero seen own rest = rest
+rest-at-home P (cell ∷ cells) (suc at) (suc k) seen own rest =
+    rest-at-home P cells at k seen own rest
+
+rest-back : (ino block : ℕ) (cells : List (Cell (Seen BlockStep))) (tile : Option TileView) →
+    IsAtRest ino block (cell_at cells block) →
+    IsAtRest ino block (cell_at (home (tile_back tile) cells) block)
+rest-back ino block cells None rest = rest
+rest-back ino block cells (Some tile) rest =
+    rest-at-home (λ cell. IsAtRest ino block cell) cells tile.at block tile.seen tt rest
+
 pub returned : (old : StateView) (job : JobView) (jobs : List JobView) (size : Seen WordStep)
     (tracker : TrackerView Held Seens (Seen BlockStep)) (core now : Core)
     (world after : World) → Returns old job size tracker core now world after →
@@ -142,6 +159,11 @@ returned old job jobs size tracker core now world after puts together = record {
         puts.blocks_are block
         ∙ kept-before old job core world together.stands together.out.0 block seen less
         (ap (λ cells. held_in (cell_at cells block)) (sym puts.cells) ∙ has);
+    rest = λ block less.
+        subst (λ cells. IsAtRest old.ino block (cell_at cells block)) (sym puts.cells)
+        (rest-back old.ino block (home (tile_back job.first) old.tracker.cells) job.second
+        (rest-back old.ino block old.tracker.cells job.first
+        (together.stands.rest block less)));
   };
   out = others-go old.ino job.place jobs core now world after
       (λ other apart stands.

@@ -37,7 +37,7 @@ use Rattle.cfs_inode.specs.Dispatching.{IsReadyAt, lent_of}
 use Rattle.cfs_inode.specs.Jobs.{AreTile, IsGiven, IsTile, with_dispatched}
 use Rattle.cfs_inode.specs.View.{Held, StateView, held_of, seens_of, state_view, told_cell, told_option}
 use Rattle.cfs_inode.proofs.EndTells.{span-told}
-use Rattle.cfs_inode.proofs.JobTells.{cell-told, slots-told, step-told, told-dispatched}
+use Rattle.cfs_inode.proofs.JobTells.{all-are-still, cell-told, slots-told, step-told, told-dispatched}
 use Rattle.cfs_inode.proofs.States.{state-told}
 use Rattle.cfs_inode.proofs.Tells.{at-told}
 
@@ -193,7 +193,8 @@ handed {R} {B} {g} words bytes number state place first second slots span one tw
     let told_step : step_at old.tracker place ≡ Takes first second =
     step-told live (seens_of words) bytes view place ∙ step in
     let is = taking old.tracker place first second told_step in
-    let are = ready-blocks old.tracker place first second told_step ready.still in
+    let are = ready-blocks old.tracker place first second told_step
+    (all-are-still old.tracker.cells first second ready.still) in
     let here : waiting_slots (entry_at old.tracker.entries place) ≡ Some held =
     slots-told live view.entries place ∙ ap (λ o. told_option live o) waiting in
     let waits : waiting_in is.entry.doing ≡ Some held = ap waiting_slots (sym is.there) ∙ here in

@@ -14,10 +14,10 @@ use Rattle.cfs_tracker.specs.declared.step.Step.{Step}
 use Rattle.cfs_tracker.specs.declared.step.Step.TheVariants.{NotWaiting}
 use Rattle.cfs_tracker.specs.Admit.{is_mapped}
 use Rattle.cfs_tracker.specs.Cells.{cell_at}
-use Rattle.cfs_tracker.specs.Dispatch.{ahead, dispatched, first_cell, holder, is_ahead, is_read_ahead, is_still, is_waiting_doing, is_wanted_cell, lend, lent_to, lesser, next_cell, read_place, second_cell, step_at, step_behind, step_of, step_of_blocks, step_with, waiting_in, waiting_slots}
+use Rattle.cfs_tracker.specs.Dispatch.{ahead, dispatched, first_cell, holder, is_ahead, is_read_ahead, are_still, is_still, is_waiting_doing, is_wanted_cell, lend, lent_to, lesser, next_cell, read_place, second_cell, step_at, step_behind, step_of, step_of_blocks, step_with, waiting_in, waiting_slots}
 use Rattle.cfs_tracker.specs.Reads.{is_live_doing, place_of}
 use Rattle.cfs_tracker.specs.View.{TrackerView, doing, entry_at, with_entry}
-use Rattle.cfs_tracker.proofs.Dispatching.{find-alike}
+use Rattle.cfs_tracker.proofs.Dispatching.{find-alike, still-held}
 use Rattle.cfs_inode.specs.View.{told, told_cell, told_doing, told_entry, told_option}
 use Rattle.cfs_inode.proofs.Tells.{at-told, with-told}
 
@@ -53,6 +53,12 @@ pub all-still-told : {B C : Type 0} (tell : B → C) (cells : List (Cell B)) →
 all-still-told tell [] = refl
 all-still-told tell (cell ∷ cells) =
     rw (still-told tell cell) (ap (λ b. is_still cell && b) (all-still-told tell cells))
+
+-- where none is in a caller's hands, these two are not
+pub all-are-still : {B : Type 0} (cells : List (Cell B)) (first second : Option ℕ) →
+    list_all (λ cell. is_still cell) cells ≡ true → are_still cells first second ≡ true
+all-are-still cells first second all =
+    rw (still-held cells first all) (still-held cells second all)
 
 pub cell-told : {B C : Type 0} (tell : B → C) (cells : List (Cell B)) (block : ℕ) →
     cell_at (map (told_cell tell) cells) block ≡ told_cell tell (cell_at cells block)

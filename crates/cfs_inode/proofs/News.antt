@@ -35,7 +35,7 @@ use Rattle.cfs_tracker.specs.View.{TrackerView, view_of}
 use Rattle.cfs_tracker.proofs.Loading.{follows-fresh}
 use Rattle.cfs_inode.specs.declared.mapped.Mapped.{Mapped}
 use Rattle.cfs_inode.specs.New.{AreMapped, HasFile, IsMapped, IsStored, MappedSeen, StandsFor, brought, seen_for, stored_state, stored_world, told_mapped, with_homes}
-use Rattle.cfs_inode.specs.Stands.{Stands, Together}
+use Rattle.cfs_inode.specs.Stands.{IsAtRest, Stands, Together}
 use Rattle.cfs_inode.specs.View.{Held, Seens, StateView, held_of, seens_of, state_view, told, told_cell}
 
 -- ---- blocks that are brought in
@@ -258,6 +258,11 @@ stored-cell ino stored blocks k are less =
     (subst (λ n. k < n) (sym long) less)
     ∙ ap (home_or (seen_for blocks k)) (hole-at FILE_BLOCKS k)
 
+rest-stored : (ino block : ℕ) (here : Option (Seen BlockStep)) →
+    IsAtRest ino block (home_or here kinds.Hole)
+rest-stored ino block None = tt
+rest-stored ino block (Some seen) = tt
+
 pub stored-stands : (ino : ℕ) (size : Seen WordStep) (stored : ℕ) (blocks : List MappedSeen) →
     IsStored ino size stored blocks →
     StandsFor size stored blocks (stored_state ino size stored blocks)
@@ -285,6 +290,10 @@ stored-stands ino size stored blocks given = λ core file. record {
     blocks = λ k seen less has.
         held-is (cell_at (stored_state ino size stored blocks).tracker.cells k) (seen_for blocks k)
         seen (stored-cell ino stored blocks k given.mapped less) has;
+    rest = λ k less.
+        subst (λ cell. IsAtRest ino k cell)
+        (sym (stored-cell ino stored blocks k given.mapped less))
+        (rest-stored ino k (seen_for blocks k));
   };
   out = tt;
   once = tt;

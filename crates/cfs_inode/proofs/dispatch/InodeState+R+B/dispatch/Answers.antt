@@ -11,14 +11,15 @@ use Rattle.cfs_inode.specs.Stands.{Together}
 use Rattle.cfs_inode.specs.View.{StateView, held_of, seens_of, state_view}
 use Rattle.cfs_inode.proofs.Dispatches.{dispatch-made}
 use Rattle.cfs_inode.proofs.Givings.{handed, state-dispatched}
-use Rattle.cfs_inode.proofs.JobTells.{all-still-told, step-told}
+use Rattle.cfs_inode.proofs.JobTells.{all-are-still, all-still-told, step-told}
 use Rattle.cfs_inode.proofs.Resting.{rests}
 use Rattle.cfs_inode.proofs.dispatch.InodeState+R+B.dispatch.Goals as goal
 
 pub dispatch-taken-requires-clause-still : goal.dispatch-taken-requires-clause-still
 dispatch-taken-requires-clause-still g c =
-    sym (all-still-told g.B.Block.seen (view_of c.args.self.now.tracker).cells)
-    ∙ c.requires.ready.still
+    all-are-still (view_of c.args.self.now.tracker).cells c.in-Takes.first c.in-Takes.second
+    (sym (all-still-told g.B.Block.seen (view_of c.args.self.now.tracker).cells)
+    ∙ c.requires.ready.still)
 
 pub new-requires : goal.new-requires
 new-requires g c =
