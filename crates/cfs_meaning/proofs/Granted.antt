@@ -24,7 +24,7 @@ use Rattle.cfs_meaning.specs.Files.{close, close_in, opened}
 use Rattle.cfs_meaning.specs.Laws.{is_mount}
 use Rattle.cfs_meaning.specs.Granted.{AreGranted, IsGranted, OfEach, OfEachOpen, OpenFilesAreGranted}
 use Rattle.cfs_meaning.specs.Play.{by, does, up, while_up}
-use Rattle.cfs_meaning.specs.Ways.{Changes, Halt, Then, Way, changes, ends, follows, gives, halts, known, now, ◌>>=◌, ◌>>◌}
+use Rattle.cfs_meaning.specs.Ways.{Changes, Halt, Then, Way, changes, ends, follows, gives, halts, known, now, ◌>>=◌}
 use Rattle.cfs_meaning.proofs.Keeping.{Any, IsQuiet, Keeps, keep-each, keep-give, keep-look, keep-now, keep-repeats, keep-say, keep-then, keep-when}
 use Rattle.cfs_meaning.proofs.KeptInode.{kept-drop, kept-settle}
 use Rattle.cfs_meaning.proofs.KeptNames.{kept-ask-purge}

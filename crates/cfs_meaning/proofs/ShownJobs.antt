@@ -35,7 +35,7 @@ use Rattle.cfs_pmem.specs.WordOps.{get}
 use Rattle.cfs_pmem.proofs.AskLemmas.{asks_one}
 use Rattle.cfs_pmem.proofs.MomentLemmas.{begun}
 use Rattle.cfs_pmem.proofs.Patches.{length-patched, patched_same}
-use Rattle.cfs_block.specs.BlockImages.{BlockStep, Content, DiffersWithin, IsBlockImage, IsRangedFrom, content_of, kept, ranged, unwritten, with_bytes, wrote}
+use Rattle.cfs_block.specs.BlockImages.{BlockStep, Content, DiffersWithin, IsBlockImage, IsRangedFrom, content_of, ranged, unwritten, with_bytes, wrote}
 use Rattle.cfs_block.specs.BlockOps.{BlockOp, block_done, flush, get_bytes, put_bytes}
 use Rattle.cfs_block.proofs.BlockMoments.{on_flush, on_stall, on_torn, on_write}
 use Rattle.cfs_medium.specs.Shows.{Shows}

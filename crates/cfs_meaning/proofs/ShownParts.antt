@@ -1,10 +1,10 @@
 -- Parts of lines that keep a world shown by its devices.
-use Rattle.std.proofs.Common.{◌≡◌, ℕ, Bool, true, false, not, Option, Some, None, refl, sym, subst, if◌then◌else◌}
+use Rattle.std.proofs.Common.{◌≡◌, ℕ, Bool, true, false, Option, Some, None, refl, sym, subst, if◌then◌else◌}
 use Rattle.cfs_print.specs.declared.printed.Printed.{Printed}
 use Rattle.cfs_meaning.specs.World.{Descriptor, Down, Failed, Phase, Up, World, with_descriptor}
 use Rattle.cfs_meaning.specs.Files.{at_position, has_no_power, moved_by}
 use Rattle.cfs_meaning.specs.Devices.{IsShown}
-use Rattle.cfs_meaning.specs.Play.{does, told, up, while_up}
+use Rattle.cfs_meaning.specs.Play.{told, up, while_up}
 use Rattle.cfs_meaning.specs.Ways.{Now, Way, give, known, refuse_if, ◌>>=◌}
 use Rattle.cfs_meaning.proofs.Hoare.{Leaves, leave-end, leave-give, leave-known, leave-look, leave-refuse, leave-then, leave-weaker}
 

@@ -21,7 +21,7 @@ use Rattle.cfs_meaning.specs.Files.{list_queue, lseek, opened, opened_to_read, p
 use Rattle.cfs_meaning.specs.Workers.{dispatch_by, dispatch_line, settle_line, skip_line}
 use Rattle.cfs_meaning.specs.Mounting.{mount_steps}
 use Rattle.cfs_meaning.specs.Answered.{HasRoom, LinesHaveAnswers, helps_none}
-use Rattle.cfs_meaning.specs.Play.{by, does, mount, mount_line, plan, printed, steps_so, up}
+use Rattle.cfs_meaning.specs.Play.{by, does, mount, mount_line, plan, printed, steps_so}
 use Rattle.cfs_meaning.specs.Ways.{Way}
 use Rattle.cfs_meaning.proofs.Keeping.{AreUncrashed}
 use Rattle.cfs_meaning.proofs.Quiet.{core-up}
