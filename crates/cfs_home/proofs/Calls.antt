@@ -168,7 +168,8 @@ size-other words place image node differs = elim (cases_lt node 256) [
         ap (λ (c : Bool). if c then get_or (get_or list (67 + node) []) 0 0 else 0) test
 
 -- a word that is set is read
-pub first-set : (words : List ℕ) (word : ℕ) → 0 < length words → get_or (set words 0 word) 0 0 ≡ word
+pub first-set : (words : List ℕ) (word : ℕ) → 0 < length words →
+    get_or (set words 0 word) 0 0 ≡ word
 first-set words word some = get_or-set_same words 0 word 0 some
 
 size-own : (words : List (List ℕ)) (node : ℕ) (image : List ℕ) → node < 256 →
@@ -234,7 +235,7 @@ gate-set at first firsts images are contents is = record {
 -- ---- the calls
 
 pub writes-stop : WritesMayStop
-writes-stop files file request start first regions old new asked_old asked_new keeps words distinct moments =
+writes-stop files file request start first regions old new _ _ keeps words distinct moments =
     on-blocks (λ (images : DeviceImages). AllStay files start (disk_of images)) regions distinct
     (λ images regions_are beside. let are = words images.words regions_are in
     keeps (disk_of images)
@@ -242,7 +243,8 @@ writes-stop files file request start first regions old new asked_old asked_new k
     moments
 
 pub sizes-stop : SizesMayStop
-sizes-stop files node size start first old new blocks asked_old asked_new keeps stay below some words contents distinct moments =
+sizes-stop files node size start first old new blocks _ _ keeps stay below some words contents
+    distinct moments =
     on-regions (λ (images : DeviceImages). AllStay files start (disk_of images)) blocks distinct
     (λ images but blocks_are. each images
     (set-of (67 + node) size old images.words but) (contents images.contents blocks_are))
@@ -259,7 +261,7 @@ sizes-stop files node size start first old new blocks asked_old asked_new keeps 
     ]
 
 pub closes-stop : ClosesMayStop
-closes-stop files at start first old new blocks asked_old asked_new keeps stay words contents distinct moments =
+closes-stop files at start first old new blocks _ _ keeps stay words contents distinct moments =
     on-regions (λ (images : DeviceImages). AllStay files start (disk_of images)) blocks distinct
     (λ images but blocks_are. each images
     (set-of (323 + at) 0 old images.words but) (contents images.contents blocks_are))
@@ -275,7 +277,7 @@ closes-stop files at start first old new blocks asked_old asked_new keeps stay w
     ]
 
 pub tags-stop : TagsMayStop
-tags-stop files at tag start first regions old new asked_old asked_new keeps stay words contents distinct moments =
+tags-stop files at tag start first regions old new _ _ keeps stay words contents distinct moments =
     on-blocks (λ (images : DeviceImages). AllStay files start (disk_of images)) regions distinct
     (λ images regions_are but. each images (words images.words regions_are) but)
     moments

@@ -242,7 +242,8 @@ loaded-there file disk =
 pub loaded-blocks : LoadedHaveBlocks
 loaded-blocks file disk core block k content loaded here less =
     sym (loaded.bytes (BLOCK_LEN * block + k)
-    ∙ (ap (λ (b : ℕ). byte_of (block_for file.ino b disk.blocks) ((BLOCK_LEN * block + k) % BLOCK_LEN))
+    ∙ (ap (λ (b : ℕ).
+    byte_of (block_for file.ino b disk.blocks) ((BLOCK_LEN * block + k) % BLOCK_LEN))
     quotient
     ∙ (ap (λ (r : ℕ). byte_of (block_for file.ino block disk.blocks) r) rest
     ∙ ap (λ (o : Option Content). byte_of o k) here)))

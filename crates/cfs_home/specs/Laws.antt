@@ -143,8 +143,8 @@ LoadedHaveBlocks =
 
 -- ---- calls on the devices
 
--- A mount may stop at any moment of a call, where what the call does leaves the files: of writes and
--- flushes of the blocks of a request,
+-- A mount may stop at any moment of a call, where what the call does leaves the files: of writes
+-- and flushes of the blocks of a request,
 abbrev pub WritesMayStop : Type 0
 WritesMayStop =
     (files : List File) (file : File) (request : Request) (start first : Disk)

@@ -2,8 +2,8 @@
 //!
 //! `specs/Parts.antt` has one file of an image, position by position, and the steps by which a
 //! mount brings a live entry home; `specs/Disks.antt` has all files of an image, and each step of a
-//! mount on its devices; `specs/Ends.antt` has where it ends. `specs/Laws.antt` states what the steps
-//! keep.
+//! mount on its devices; `specs/Ends.antt` has where it ends. `specs/Laws.antt` states what the
+//! steps keep.
 //! `specs/Calls.antt` has the disk that a crash leaves of a store's devices, and calls on these.
 #![tactic(auto)]
 

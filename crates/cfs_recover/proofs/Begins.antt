@@ -1,5 +1,5 @@
 -- While the bytes of the lowest entry are brought home, a mount finds the same files.
-use Rattle.std.proofs.Common.{ℕ, ◌≡◌, List, refl, sym, subst}
+use Rattle.std.proofs.Common.{ℕ, List, refl, sym, subst}
 use Rattle.cfs_file.specs.declared.request.Request.{Request}
 use Rattle.cfs_pmem.specs.declared.trace.Asked.{Asked}
 use Rattle.cfs_pmem.specs.Images.{Seen, WordStep}
@@ -26,8 +26,8 @@ pub bytes-stop : (files : List File) (file : File) (at : ℕ) (entry : ℕ × Re
     LeavesBeside file.ino entry.1 first.blocks asked_old olds asked_new news →
     MountMoments files start asked_old (record { regions = regions; blocks = olds })
     asked_new (record { regions = regions; blocks = news })
-bytes-stop files file at entry rest start first regions olds news asked_old asked_new begins leaves =
-    writes-stop files file entry.1 start first regions olds news asked_old asked_new keeps
+bytes-stop files file at entry rest start first regions olds news _ _ begins leaves =
+    writes-stop files file entry.1 start first regions olds news _ _ keeps
     begins.words begins.distinct
     (leaves (λ contents each. subst (BlocksBeside file.ino entry.1 first.blocks)
     (sym (begins.blocks_are contents each)) (beside-same file.ino entry.1 first.blocks)))

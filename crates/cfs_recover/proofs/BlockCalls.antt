@@ -45,7 +45,8 @@ none-fell [] = tt
 none-fell (n ∷ counts) = (omega arith, none-fell counts)
 
 -- the count of one of them tells how a call ended
-cause-at : {T E : Type 0} (counts : List ℕ) (at now : ℕ) (result : Result T E) → at < length counts →
+cause-at : {T E : Type 0} (counts : List ℕ) (at now : ℕ) (result : Result T E) →
+    at < length counts →
     HasCause (get_or counts at 0) now result → HaveCause counts (set counts at now) result
 cause-at [] at now result less cause = absurd (omega arith)
 cause-at (n ∷ counts) zero now (Ok t) less cause = record {
@@ -78,7 +79,8 @@ pub cause-of : {X T E : Type 0} (faults : X → ℕ) (xs : List X) (at : ℕ) (d
 cause-of {X} {T} {E} faults xs at d y result less cause =
     subst (λ (ns : List ℕ). HaveCause (map faults xs) ns result) (sym (map-set faults xs at y))
     (cause-at (map faults xs) at (faults y) result (omega (arith, length-map xs faults))
-    (subst (λ (n : ℕ). HasCause n (faults y) result) (sym (get_or-map faults xs at d 0 less)) cause))
+    (subst (λ (n : ℕ). HasCause n (faults y) result) (sym (get_or-map faults xs at d 0 less))
+    cause))
 
 pub on-ok : {T E : Type 0} {A B : Type 0} (result : Result T E) → (A → B) → OnOk result A →
     OnOk result B
@@ -220,7 +222,8 @@ pub write-beside : {X : Type 0} {asked_old asked_new : List Asked} (see : X → 
     (see (get_or xs at d)) asked_new (see y) →
     (ino : ℕ) (request : Request) (first : List Content) → IsPiece ino request first at from len →
     LeavesBeside ino request first asked_old (map see xs) asked_new (map see (set xs at y))
-write-beside {X} {asked_old} {asked_new} see xs at from len d y less distinct moments ino request first piece are =
+write-beside {X} {asked_old} {asked_new} see xs at from len d y less distinct moments ino request
+    first piece are =
     all_weaker
     (λ (contents : List Content) but. ranged-beside ino request first (map see xs) at from len
     piece are contents but)

@@ -1,11 +1,10 @@
 -- What stands in the blocks once the pieces of a request are written.
-use Rattle.std.proofs.Common.{ℕ, zero, suc, ◌+◌, ◌-◌, ◌*◌, ◌/◌, ◌%◌, ◌<◌, ◌≤◌, ◌≡◌, ◌∙◌, ◌⊎◌, List, [], ◌∷◌, ◌++◌, take, drop, length, map, get_or, set, inl, inr, refl, sym, ap, subst, arith}
+use Rattle.std.proofs.Common.{ℕ, ◌+◌, ◌-◌, ◌*◌, ◌/◌, ◌%◌, ◌<◌, ◌≤◌, ◌≡◌, ◌∙◌, ◌⊎◌, List, [], ◌∷◌, drop, length, map, get_or, set, inl, inr, refl, sym, ap, subst, arith}
 use Rattle.std.proofs.Math.ListN.{get_or-map}
 use Rattle.std.proofs.lemmas.Bool.{cases_lt}
 use Rattle.std.proofs.lemmas.List.{get_or-drop, get_or-set_other, get_or-set_same, get_or-take, length-drop, length-set, length-take-le, set_past}
 use Rattle.cfs_file.specs.declared.request.Request.{Request}
 use Rattle.cfs_file.specs.declared.sizes.TheConstants.{BLOCK_LEN, FILE_BLOCKS}
-use Rattle.cfs_file.specs.Span.{Touches}
 use Rattle.cfs_core.proofs.Order.{same_or_not}
 use Rattle.cfs_pmem.specs.Images.{Seen, patched}
 use Rattle.cfs_pmem.specs.Objects.{seen_at}
@@ -139,8 +138,12 @@ still-full : (blocks : List (Seen BlockStep)) (piece : Piece) (bytes : List ℕ)
 still-full blocks piece bytes full within k less =
     write-long blocks piece.at piece.from (bytes_of piece bytes) k
     (fits-in blocks piece bytes full within)
-    ∙ full k (omega (arith, less, length-set blocks piece.at
-    (wrote piece.from (bytes_of piece bytes) (seen_at blocks piece.at))))
+    ∙ full k (omega (
+      arith,
+      less,
+      length-set blocks piece.at
+          (wrote piece.from (bytes_of piece bytes) (seen_at blocks piece.at)),
+    ))
 
 still-within : (blocks : List (Seen BlockStep)) (a from n : ℕ) (bytes : List ℕ)
     (pieces : List Piece) → AllLieWithin (length blocks) n pieces →
@@ -270,8 +273,12 @@ pieces-own ino request first (piece ∷ pieces) bytes blocks at p full within br
         | inl some ↦ elim some [ inl inside ↦ absurd (out inside) | inr later ↦ inl later ]
         | inr stands ↦ inr (write-beside blocks piece.at piece.from (bytes_of piece bytes) at
             (p % BLOCK_LEN) (fits-in blocks piece bytes full within.0)
-            (λ h. out (h.0, h.1, (let top = h.2 in
-            omega (arith, top, piece-len piece bytes (length blocks) within.0)))) ∙ stands)
+            (λ h. out (
+              h.0,
+              h.1,
+              (let top = h.2 in
+                  omega (arith, top, piece-len piece bytes (length blocks) within.0)),
+            )) ∙ stands)
       ]
     ])
 

@@ -1,5 +1,5 @@
 -- Each block that was written is flushed, and the others stay as they are.
-use Rattle.std.proofs.Common.{ℕ, zero, suc, ◌+◌, ◌-◌, ◌<◌, ◌≤◌, ◌≡◌, ◌∙◌, ◌⊎◌, List, [], ◌∷◌, length, map, get_or, set, inl, inr, refl, sym, ap, subst, arith}
+use Rattle.std.proofs.Common.{ℕ, suc, ◌<◌, ◌≡◌, ◌∙◌, ◌⊎◌, List, [], ◌∷◌, length, map, set, inl, inr, refl, sym, ap, subst, arith}
 use Rattle.std.proofs.lemmas.List.{get_or-set_other, get_or-set_same, length-set}
 use Rattle.cfs_core.proofs.Order.{same_or_not}
 use Rattle.cfs_pmem.specs.Images.{Seen}
@@ -49,8 +49,12 @@ write-sure all (piece ∷ pieces) bytes blocks into sure =
     one : AreSureBut all (with_write piece.at piece.from (bytes_of piece bytes) blocks)
     one k less = elim (same_or_not k piece.at) [
       | inl same ↦ inr (into k (inl same))
-      | inr apart ↦ elim (sure k (omega (arith, less, length-set blocks piece.at
-          (wrote piece.from (bytes_of piece bytes) (seen_at blocks piece.at))))) [
+      | inr apart ↦ elim (sure k (omega (
+        arith,
+        less,
+        length-set blocks piece.at
+            (wrote piece.from (bytes_of piece bytes) (seen_at blocks piece.at)),
+      ))) [
         | inl is ↦ inl (subst (λ (seen : Seen BlockStep). IsSureBlock seen)
             (sym (stays-at blocks piece.at k
             (wrote piece.from (bytes_of piece bytes) (seen_at blocks piece.at)) apart)) is)
@@ -67,7 +71,8 @@ writes-long (piece ∷ pieces) bytes blocks =
     (wrote piece.from (bytes_of piece bytes) (seen_at blocks piece.at))
 
 flush-sure : (pieces : List Piece) (blocks : List (Seen BlockStep)) →
-    AllBelow (length blocks) pieces → AreSureBut pieces blocks → AreSure (with_flushes pieces blocks)
+    AllBelow (length blocks) pieces → AreSureBut pieces blocks →
+    AreSure (with_flushes pieces blocks)
 flush-sure [] blocks below sure = λ k less. elim (sure k less) [
   | inl is ↦ is
   | inr some ↦ absurd some
@@ -83,8 +88,11 @@ flush-sure (piece ∷ pieces) blocks below sure =
           (ap (seen_at (with_flush piece.at blocks)) same
           ∙ get_or-set_same blocks piece.at (kept (seen_at blocks piece.at))
           (record { device = 0; also = []; history = [] }) below.0))
-      | inr apart ↦ elim (sure k (omega (arith, less,
-          length-set blocks piece.at (kept (seen_at blocks piece.at))))) [
+      | inr apart ↦ elim (sure k (omega (
+        arith,
+        less,
+        length-set blocks piece.at (kept (seen_at blocks piece.at)),
+      ))) [
         | inl is ↦ inl (subst (λ (seen : Seen BlockStep). IsSureBlock seen)
             (sym (stays-at blocks piece.at k (kept (seen_at blocks piece.at)) apart)) is)
         | inr some ↦ elim some [

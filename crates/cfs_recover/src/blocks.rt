@@ -29,8 +29,7 @@ pub fn write_block<B: Block, P: Power>(
         IsPiece ino request first at from (length bytes.now) →
         LeavesBeside ino request first (P.asked power.old) (map B.seen blocks.old)
         (P.asked power.new) (map B.seen blocks.new) }
-    ensures devices {
-        all_devices (map B.seen blocks.new) ≡ all_devices (map B.seen blocks.old) }
+    ensures devices { all_devices (map B.seen blocks.new) ≡ all_devices (map B.seen blocks.old) }
     ensures numbers { map B.number blocks.new ≡ map B.number blocks.old }
     ensures cause { HaveCause (map B.faults blocks.old) (map B.faults blocks.new) result }
 {
@@ -50,8 +49,7 @@ pub fn flush_block<B: Block, P: Power>(
     ensures beside { (ino : ℕ) (request : Request) (first : List Content) →
         LeavesBeside ino request first (P.asked power.old) (map B.seen blocks.old)
         (P.asked power.new) (map B.seen blocks.new) }
-    ensures devices {
-        all_devices (map B.seen blocks.new) ≡ all_devices (map B.seen blocks.old) }
+    ensures devices { all_devices (map B.seen blocks.new) ≡ all_devices (map B.seen blocks.old) }
     ensures numbers { map B.number blocks.new ≡ map B.number blocks.old }
     ensures cause { HaveCause (map B.faults blocks.old) (map B.faults blocks.new) result }
 {
@@ -74,8 +72,7 @@ pub fn write_pieces<B: Block, P: Power>(
         ArePieces ino request first pieces.now →
         LeavesBeside ino request first (P.asked power.old) (map B.seen blocks.old)
         (P.asked power.new) (map B.seen blocks.new) }
-    ensures devices {
-        all_devices (map B.seen blocks.new) ≡ all_devices (map B.seen blocks.old) }
+    ensures devices { all_devices (map B.seen blocks.new) ≡ all_devices (map B.seen blocks.old) }
     ensures numbers { map B.number blocks.new ≡ map B.number blocks.old }
     ensures cause { HaveCause (map B.faults blocks.old) (map B.faults blocks.new) result }
 {
@@ -100,8 +97,7 @@ pub fn flush_pieces<B: Block, P: Power>(
     ensures beside { (ino : ℕ) (request : Request) (first : List Content) →
         LeavesBeside ino request first (P.asked power.old) (map B.seen blocks.old)
         (P.asked power.new) (map B.seen blocks.new) }
-    ensures devices {
-        all_devices (map B.seen blocks.new) ≡ all_devices (map B.seen blocks.old) }
+    ensures devices { all_devices (map B.seen blocks.new) ≡ all_devices (map B.seen blocks.old) }
     ensures numbers { map B.number blocks.new ≡ map B.number blocks.old }
     ensures cause { HaveCause (map B.faults blocks.old) (map B.faults blocks.new) result }
 {

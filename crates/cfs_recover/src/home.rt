@@ -15,8 +15,8 @@ use crate::piece::Piece;
 use cfs_block::Block;
 use cfs_pmem::{DeviceFault, Power};
 
-/// Writes the pieces of a live entry and then flushes their blocks. Where the entry is the lowest of
-/// its file, a crash at any moment leaves what a mount finds the same files in.
+/// Writes the pieces of a live entry and then flushes their blocks. Where the entry is the lowest
+/// of its file, a crash at any moment leaves what a mount finds the same files in.
 pub fn bring_bytes<B: Block, P: Power>(
     blocks: &mut [B],
     power: &mut P,
@@ -35,8 +35,7 @@ pub fn bring_bytes<B: Block, P: Power>(
         MountMoments files start
         (P.asked power.old) (record { regions = regions; blocks = map B.seen blocks.old })
         (P.asked power.new) (record { regions = regions; blocks = map B.seen blocks.new }) }
-    ensures devices {
-        all_devices (map B.seen blocks.new) ≡ all_devices (map B.seen blocks.old) }
+    ensures devices { all_devices (map B.seen blocks.new) ≡ all_devices (map B.seen blocks.old) }
     ensures numbers { map B.number blocks.new ≡ map B.number blocks.old }
     ensures cause { HaveCause (map B.faults blocks.old) (map B.faults blocks.new) result }
 {

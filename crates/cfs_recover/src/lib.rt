@@ -1,5 +1,5 @@
-//! The steps by which a mount brings a live entry home: its blocks are written and flushed, its size
-//! word is set, and its gate is closed.
+//! The steps by which a mount brings a live entry home: its blocks are written and flushed, its
+//! size word is set, and its gate is closed.
 //!
 //! Each call says which files a crash leaves at each of its moments, as `cfs_home` has them, and
 //! which devices stand behind it.

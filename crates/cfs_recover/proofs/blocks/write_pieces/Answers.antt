@@ -11,8 +11,9 @@ unfolding none
 returns-in_err-write_block-clause-beside g c = λ ino request first pieces.
     leaves-after ino request first (c.loop-piece.invariant.beside ino request first pieces)
     (c.write_block.ensures.beside ino request first
-    (piece-long ino request first (length c.args.blocks.now) (get_or c.args.pieces.now c.loop-piece.piece-index none)
-    c.args.bytes.now (c.requires.within c.loop-piece.piece-index none c.loop-piece-test.true)
+    (piece-long ino request first (length c.args.blocks.now)
+    (get_or c.args.pieces.now c.loop-piece.piece-index none) c.args.bytes.now
+    (c.requires.within c.loop-piece.piece-index none c.loop-piece-test.true)
     (pieces c.loop-piece.piece-index none c.loop-piece-test.true)))
 
 pub loop-piece-preserved : goal.loop-piece-preserved
@@ -23,8 +24,9 @@ loop-piece-preserved g c = record {
   beside = λ ino request first pieces.
       leaves-after ino request first (c.loop-piece.invariant.beside ino request first pieces)
       (c.write_block.ensures.beside ino request first
-      (piece-long ino request first (length c.args.blocks.now) (get_or c.args.pieces.now c.loop-piece.piece-index none)
-      c.args.bytes.now (c.requires.within c.loop-piece.piece-index none c.loop-piece-test.true)
+      (piece-long ino request first (length c.args.blocks.now)
+      (get_or c.args.pieces.now c.loop-piece.piece-index none) c.args.bytes.now
+      (c.requires.within c.loop-piece.piece-index none c.loop-piece-test.true)
       (pieces c.loop-piece.piece-index none c.loop-piece-test.true)));
   devices = c.write_block.ensures.devices ∙ c.loop-piece.invariant.devices;
   numbers = c.write_block.ensures.numbers ∙ c.loop-piece.invariant.numbers;
