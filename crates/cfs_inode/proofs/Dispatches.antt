@@ -41,7 +41,7 @@ use Rattle.cfs_tracker.proofs.Putting.{track-of}
 use Rattle.cfs_tracker.proofs.Tracks.{in-log, track-here}
 use Rattle.cfs_inode.specs.Jobs.{AreTile, IsGiven, with_dispatched}
 use Rattle.cfs_inode.specs.Makes.{AnyBetween, Makes}
-use Rattle.cfs_inode.specs.Stands.{AllStand, IsBeside, IsHeld, JobStands, Stands, Together, slots_in}
+use Rattle.cfs_inode.specs.Stands.{AllStand, IsAtRest, IsBeside, IsHeld, JobStands, Stands, Together, slots_in}
 use Rattle.cfs_inode.specs.View.{Held, StateView}
 use Rattle.cfs_inode.proofs.Goods.{good}
 use Rattle.cfs_inode.proofs.Replacing.{all-go}
@@ -91,6 +91,20 @@ lent-or-kept cells place (Some own) block seen less has = elim (same_or_not bloc
       (λ same. apart (let it : Some own ≡ Some block = same in cc)))) ∙ has
 ]
 
+rest-lent : (ino : ℕ) (cells : List (Cell (Seen BlockStep))) (place : ℕ) (held : Option ℕ)
+    (block : ℕ) → block < length cells → IsAtRest ino block (cell_at cells block) →
+    IsAtRest ino block (cell_at (lend place held cells) block)
+rest-lent ino cells place None block less rest = rest
+rest-lent ino cells place (Some own) block less rest = elim (same_or_not block own) [
+  | inl same ↦
+      subst (λ (c : Cell (Seen BlockStep)). IsAtRest ino block c)
+      (sym (lend-here cells place (Some own) block (ap Some (sym same)) less)) tt
+  | inr apart ↦
+      subst (λ (c : Cell (Seen BlockStep)). IsAtRest ino block c)
+      (sym (lend-beside cells place (Some own) block
+      (λ same. apart (let it : Some own ≡ Some block = same in cc)))) rest
+]
+
 -- ---- the state
 
 out-slots : (first second : Option ℕ) (e entry : Pending Held) (held : Held) →
@@ -120,7 +134,7 @@ not-there ino place (job ∷ jobs) core world apart all =
 out-waits : (s : State) (job : JobView) → s ≡ states.Out (core_job job) → is_waiting s ≡ true → ⊥
 out-waits s job out waits = (let none : is_waiting s ≡ false = rw out refl in cc)
 
-waits-state : (now : Doing Held) (held : Held) (s : State) → waiting_in now ≡ Some held →
+pub waits-state : (now : Doing Held) (held : Held) (s : State) → waiting_in now ≡ Some held →
     IsDoing now s → s ≡ states.Waiting
 waits-state (doings.Waiting x) held s h is = is
 waits-state doings.Marking held s h is = cc
@@ -215,6 +229,11 @@ dispatch-made old place first second job is are given asked jobs = λ core world
               (omega (arith, within, follows.many, lend-length cells place first)) has in
               stands.blocks block seen within
               (lent-or-kept cells place first block seen (omega (arith, within, follows.many)) one);
+          rest = λ block within.
+              rest-lent old.ino (lend place first cells) place second block
+              (omega (arith, within, follows.many, lend-length cells place first))
+              (rest-lent old.ino cells place first block (omega (arith, within, follows.many))
+              (stands.rest block within));
         };
         out = (
           record {

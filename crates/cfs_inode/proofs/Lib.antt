@@ -16,3 +16,13 @@ pub mod Works
 pub mod Serving
 pub mod Copies
 pub mod ReadSteps
+pub mod MarkTells
+pub mod Marks
+pub mod Blocks
+pub mod Zeros
+pub mod Trimmings
+pub mod TrimTells
+pub mod Coverings
+pub mod Taggings
+pub mod CoverTells
+pub mod TagTells

@@ -35,7 +35,7 @@ use Rattle.cfs_tracker.specs.View.{TrackerView, view_of}
 use Rattle.cfs_tracker.proofs.Loading.{follows-fresh}
 use Rattle.cfs_inode.specs.declared.mapped.Mapped.{Mapped}
 use Rattle.cfs_inode.specs.New.{AreMapped, HasFile, IsMapped, IsStored, MappedSeen, StandsFor, brought, seen_for, stored_state, stored_world, told_mapped, with_homes}
-use Rattle.cfs_inode.specs.Stands.{Stands, Together}
+use Rattle.cfs_inode.specs.Stands.{IsAtRest, Stands, Together}
 use Rattle.cfs_inode.specs.View.{Held, Seens, StateView, held_of, seens_of, state_view, told, told_cell}
 
 -- ---- blocks that are brought in
@@ -242,6 +242,11 @@ held-is cell None seen is held =
 held-is cell (Some one) seen is held =
     (let some : held_in cell ≡ Some one = rw is refl in sym some ∙ held)
 
+at-rest : (ino k : ℕ) (cell : Cell (Seen BlockStep)) (here : Option (Seen BlockStep)) →
+    cell ≡ home_or here kinds.Hole → IsAtRest ino k cell
+at-rest ino k cell None is = rw is tt
+at-rest ino k cell (Some seen) is = rw is tt
+
 hole-at : (n k : ℕ) → cell_at {B = Seen BlockStep} (replicate n kinds.Hole) k ≡ kinds.Hole
 hole-at zero k = refl
 hole-at (suc n) zero = refl
@@ -285,6 +290,9 @@ stored-stands ino size stored blocks given = λ core file. record {
     blocks = λ k seen less has.
         held-is (cell_at (stored_state ino size stored blocks).tracker.cells k) (seen_for blocks k)
         seen (stored-cell ino stored blocks k given.mapped less) has;
+    rest = λ k less.
+        at-rest ino k (cell_at (stored_state ino size stored blocks).tracker.cells k)
+        (seen_for blocks k) (stored-cell ino stored blocks k given.mapped less);
   };
   out = tt;
   once = tt;

@@ -1,5 +1,5 @@
 -- Calls that ask for no step of a device.
-use Rattle.std.proofs.Common.{◌≡◌, ◌∙◌, ◌≤◌, ◌+◌, ap, arith, inr, List, [], ◌∷◌, length, None, refl, sym, true, false, ℕ}
+use Rattle.std.proofs.Common.{◌≡◌, ◌∙◌, ◌≤◌, ◌+◌, ap, arith, inr, List, [], ◌∷◌, length, None, refl, subst, sym, true, false, ℕ}
 use Rattle.std.specs.Prelude.{is_some}
 use Rattle.cfs_file.specs.declared.request.Request.{Request}
 use Rattle.cfs_core.specs.declared.event.Event.{Event}
@@ -31,7 +31,7 @@ use Rattle.cfs_tracker.proofs.Readings.{follows-dropped, follows-read, read-is, 
 use Rattle.cfs_tracker.proofs.Tracks.{in-log}
 use Rattle.cfs_inode.specs.Makes.{AnyBetween, Made}
 use Rattle.cfs_inode.specs.Reads.{QuietlyMakes, ReadMakes, with_read, without_read}
-use Rattle.cfs_inode.specs.Stands.{JobStands, Together}
+use Rattle.cfs_inode.specs.Stands.{IsAtRest, JobStands, Together}
 use Rattle.cfs_inode.specs.View.{Held, Seens, StateView}
 use Rattle.cfs_inode.proofs.Goods.{good}
 use Rattle.cfs_inode.proofs.Openings.{past-blank}
@@ -93,6 +93,9 @@ stayed old tracker event asked jobs core world stays together =
           blocks = λ block seen less has.
               stands.blocks block seen less
               (ap (λ cells. held_in (cell_at cells block)) (sym stays.cells) ∙ has);
+          rest = λ block less.
+              subst (λ cells. IsAtRest old.ino block (cell_at cells block)) (sym stays.cells)
+              (stands.rest block less);
         };
         out = all-go old.ino jobs core now world world
             (job-stays old tracker event core world stays) together.out;

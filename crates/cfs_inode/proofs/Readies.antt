@@ -68,7 +68,7 @@ mapped-at tell cells block =
     ap is_mapped (get_or-map (told_cell tell) cells block kinds.Hole)
     ∙ mapped-told tell (cell_at cells block)
 
-unmapped-told : {B C : Type 0} (tell : B → C) (cells : List (Cell B)) (blocks : List ℕ) →
+pub unmapped-told : {B C : Type 0} (tell : B → C) (cells : List (Cell B)) (blocks : List ℕ) →
     find (λ k. not (is_mapped (cell_at (map (told_cell tell) cells) k))) blocks
     ≡ find (λ k. not (is_mapped (cell_at cells k))) blocks
 unmapped-told tell cells [] = refl

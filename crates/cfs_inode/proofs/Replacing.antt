@@ -1,5 +1,5 @@
 -- The slots at a place come to be other ones, and what the state knows of that place.
-use Rattle.std.proofs.Common.{◌≡◌, ◌∙◌, ap, inl, inr, List, [], ◌∷◌, Option, Some, refl, sym, true, false, ℕ}
+use Rattle.std.proofs.Common.{◌≡◌, ◌∙◌, ap, inl, inr, List, [], ◌∷◌, Option, Some, refl, subst, sym, true, false, ℕ}
 use Rattle.cfs_pmem.specs.Images.{Seen}
 use Rattle.cfs_block.specs.BlockImages.{BlockStep}
 use Rattle.cfs_core.specs.declared.inode_core.Core.{Core}
@@ -20,7 +20,7 @@ use Rattle.cfs_tracker.specs.Cells.{cell_at, held_in}
 use Rattle.cfs_tracker.specs.Follows.{Follows}
 use Rattle.cfs_tracker.specs.View.{TrackerView, entry_at}
 use Rattle.cfs_inode.specs.View.{Held, Seens, StateView}
-use Rattle.cfs_inode.specs.Stands.{AllStand, AreHeld, JobStands, Stands, Together, slots_in}
+use Rattle.cfs_inode.specs.Stands.{AllStand, AreHeld, IsAtRest, JobStands, Stands, Together, slots_in}
 
 -- ---- jobs
 
@@ -120,6 +120,9 @@ replaced old tracker place seens jobs core now world puts together = record {
     blocks = λ block seen less has.
         together.stands.blocks block seen less
         (ap (λ cells. held_in (cell_at cells block)) (sym puts.cells) ∙ has);
+    rest = λ block less.
+        subst (λ cells. IsAtRest old.ino block (cell_at cells block)) (sym puts.cells)
+        (together.stands.rest block less);
   };
   out = all-go old.ino jobs core now world (with_slots place seens world)
       (λ job stands.

@@ -159,7 +159,7 @@ doubt-apart (Some mine) (Some d) place doubt is stands beside same =
     beside d refl (stands.place ∙ ap (λ (x : InDoubt Seens). x.place) one ∙ same)
 
 -- no request in doubt has the place
-doubt-stays : (old : StateView) (place : ℕ) (seens : Seens) (core : Core) (world : World) →
+pub doubt-stays : (old : StateView) (place : ℕ) (seens : Seens) (core : Core) (world : World) →
     Stands old core world → IsBesideDoubt core place → (doubt : InDoubt Seens) →
     old.tracker.doubt ≡ Some doubt → (slots : Seens) →
     DoubtGoes old.tracker.doubt place seens doubt slots

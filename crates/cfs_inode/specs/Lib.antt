@@ -7,3 +7,7 @@ pub mod Reads
 pub mod Jobs
 pub mod New
 pub mod Serves
+pub mod Marking
+pub mod Trims
+pub mod Covering
+pub mod Tagging

@@ -2,14 +2,18 @@
 use Rattle.std.specs.Prelude.{ℕ, ◌≡◌, ◌≢◌, ◌<◌, Option, Some, None, List, [], ◌∷◌}
 use Rattle.cfs_file.specs.declared.sizes.TheConstants.{FILE_BLOCKS}
 use Rattle.cfs_pmem.specs.Images.{Seen}
-use Rattle.cfs_block.specs.BlockImages.{BlockStep}
+use Rattle.cfs_block.specs.BlockImages.{AllBlockImages, BlockStep}
 use Rattle.cfs_core.specs.declared.inode_core.Core.{Core}
 use Rattle.cfs_core.specs.declared.state.State.TheVariants as states
 use Rattle.cfs_core.specs.Words.{track}
 use Rattle.cfs_job.specs.Steps.{core_job}
 use Rattle.cfs_job.specs.Views.{JobView, TileView}
+use Rattle.cfs_medium.specs.BlockEvents.{IsBlank}
 use Rattle.cfs_medium.specs.Shows.{Shows}
+use Rattle.cfs_medium.specs.Store.{tag_of}
 use Rattle.cfs_medium.specs.World.{World}
+use Rattle.cfs_tracker.specs.declared.cell.Cell.{Cell}
+use Rattle.cfs_tracker.specs.declared.cell.Cell.TheVariants as kinds
 use Rattle.cfs_tracker.specs.declared.doing.Doing.{Doing}
 use Rattle.cfs_tracker.specs.declared.doing.Doing.TheVariants as doings
 use Rattle.cfs_tracker.specs.declared.in_doubt.InDoubt.{InDoubt}
@@ -34,6 +38,15 @@ pub record AreHeld (place : ℕ) (held : Held) (world : World) : Type 0 where
   pub opened : held.place ≡ place
   pub here : world.slots place ≡ held.slots
 
+-- Between calls no block is in a caller's hands, and one whose tag is unsure holds zeros in every
+-- image, so that it may be tagged again.
+abbrev pub IsAtRest : ℕ → ℕ → Cell (Seen BlockStep) → Type 0
+IsAtRest ino block kinds.Hole = Unit {0}
+IsAtRest ino block (kinds.Home seen) = Unit {0}
+IsAtRest ino block (kinds.Unsure seen) = AllBlockImages seen (IsBlank (tag_of ino block))
+IsAtRest ino block (kinds.Lent place) = Unit {0}
+IsAtRest ino block (kinds.Moving is_sure) = ⊥
+
 -- What the run time knows follows the core, and the devices show the same core. The state has the
 -- region of the size word, the slots of what is pending and in doubt, and the blocks that no job
 -- has. At the number in doubt stand the slots in doubt.
@@ -48,6 +61,8 @@ pub record Stands (state : StateView) (core : Core) (world : World) : Type 0 whe
       doubt.slots ≡ Some slots → world.slots doubt.place ≡ slots
   pub blocks : (block : ℕ) (seen : Seen BlockStep) → block < FILE_BLOCKS →
       held_in (cell_at state.tracker.cells block) ≡ Some seen → world.blocks block ≡ Some seen
+  pub rest : (block : ℕ) → block < FILE_BLOCKS →
+      IsAtRest state.ino block (cell_at state.tracker.cells block)
 
 -- ---- jobs that are out
 

@@ -3,6 +3,7 @@
 ghost use Rattle.cfs_inode.specs.View.{state_view};
 ghost use Rattle.cfs_inode.specs.Ends.{Settles, end_of, settle_events};
 ghost use Rattle.cfs_inode.specs.Makes.{CallMakes};
+ghost use Rattle.cfs_tracker.specs.View.{KeepsRoom};
 
 use crate::answers::CloseAnswer;
 use crate::state::InodeState;
@@ -22,6 +23,7 @@ impl<R: Region + Drop, B: Block + Drop> InodeState<R, B> {
         ensures makes { CallMakes (settle_events (end_of R.seen result))
             (P.asked power.old) (state_view R.seen B.seen self.old)
             (P.asked power.new) (state_view R.seen B.seen self.new) }
+        ensures room { KeepsRoom self.old.tracker self.new.tracker }
     {
         let Some(doubt) = self.tracker.take_doubt() else {
             return CloseAnswer::Nothing;

@@ -36,7 +36,7 @@ by-place test low (x ∷ xs) e rise is = elim (cases_Bool (test x)) [
       rw past (by-place test x.place xs e rise.1 rest)
 ]
 
-later-there : {S D B : Type 0} (view : TrackerView S D B) (later : Option (Pending S))
+pub later-there : {S D B : Type 0} (view : TrackerView S D B) (later : Option (Pending S))
     (after place : ℕ) → next_mark_by view later after ≡ Some place →
     (l : Pending S) × (e : Pending S) × (later ≡ Some l)
     × (find (is_next_mark view.reads l after) view.entries ≡ Some e) × (e.place ≡ place)

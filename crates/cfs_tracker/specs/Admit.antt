@@ -1,5 +1,5 @@
 -- A change takes a place, or is in doubt.
-use Rattle.std.specs.Prelude.{◌≡◌, ℕ, ◌+◌, ◌≤◌, Bool, true, false, not, Option, Some, None, List, [], ◌∷◌, ◌++◌, length, max, find}
+use Rattle.std.specs.Prelude.{◌≡◌, ℕ, ◌+◌, ◌≤◌, Bool, true, false, not, Option, Some, None, List, [], ◌∷◌, ◌++◌, length, max, filter, find}
 use Rattle.cfs_file.specs.declared.request.Request.{Request}
 use Rattle.cfs_file.specs.declared.request.Request.TheVariants as requests
 use Rattle.cfs_file.specs.declared.sizes.TheConstants.{LONGEST_FILE}
@@ -11,7 +11,7 @@ use Rattle.cfs_tracker.specs.declared.cell.Cell.{Cell}
 use Rattle.cfs_tracker.specs.declared.cell.Cell.TheVariants.{Hole, Home, Unsure, Lent, Moving}
 use Rattle.cfs_tracker.specs.declared.doing.Doing.TheVariants.{Waiting}
 use Rattle.cfs_tracker.specs.declared.pending.Pending.{Pending}
-use Rattle.cfs_tracker.specs.Cells.{cell_at}
+use Rattle.cfs_tracker.specs.Cells.{cell_at, is_bare}
 use Rattle.cfs_tracker.specs.View.{TrackerView}
 
 -- the length of the file after a request, where it had that length
@@ -33,6 +33,10 @@ is_mapped (Moving is_sure) = is_sure
 -- the first block of the file that a write of the span needs and that is not tagged in every image
 abbrev pub first_unmapped : {B : Type 0} → List (Cell B) → Span → Option ℕ
 first_unmapped cells span = find (λ k. not (is_mapped (cell_at cells k))) (blocks_needed span)
+
+-- so many blocks of the file that such a write needs have no block of the medium
+abbrev pub bare_needed : {B : Type 0} → List (Cell B) → Span → ℕ
+bare_needed cells span = length (filter (λ k. is_bare (cell_at cells k)) (blocks_needed span))
 
 -- Nothing is in doubt, and the request is a change whose file is short enough and whose blocks are
 -- mapped.

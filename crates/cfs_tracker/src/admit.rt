@@ -8,11 +8,11 @@ ghost use Rattle.cfs_core.specs.declared.event.Event.TheVariants as events;
 ghost use Rattle.cfs_core.specs.declared.inode_core.Core.{Core};
 ghost use Rattle.cfs_core.specs.May.{is_change, may};
 ghost use Rattle.cfs_core.specs.After.{after};
-ghost use Rattle.cfs_tracker.specs.Admit.{MayAdmit, admitted, doubted, first_unmapped, long_after, pending};
+ghost use Rattle.cfs_tracker.specs.Admit.{MayAdmit, admitted, bare_needed, doubted, first_unmapped, long_after, pending};
 ghost use Rattle.cfs_tracker.specs.Follows.{Follows};
 ghost use Rattle.cfs_tracker.specs.View.{KeepsRoom, view_of};
 
-use crate::cells::first_unmapped;
+use crate::cells::{bare_needed, first_unmapped};
 use crate::{Doing, InDoubt, Pending, Tracker};
 use cfs_file::{LONGEST_FILE, LONGEST_WRITE, Request, span_of};
 
@@ -34,6 +34,13 @@ impl<S: Drop, D: Drop, B: Drop> Tracker<S, D, B> {
         ensures { result ≡ (view_of self.now).count }
     {
         self.count
+    }
+
+    /// The length of the file after all that was admitted.
+    pub fn long(&self) -> u64
+        ensures { result ≡ (view_of self.now).long }
+    {
+        self.long
     }
 
     /// Whether the file after the request is short enough.
@@ -63,6 +70,15 @@ impl<S: Drop, D: Drop, B: Drop> Tracker<S, D, B> {
             (span request.now (view_of self.now).long) }
     {
         first_unmapped(self.cells.as_slice(), span_of(request, self.long))
+    }
+
+    /// How many blocks of the file the request needs that no block of the medium is kept for.
+    pub fn bare_needed(&self, request: &Request) -> u64
+        requires { EndFits request.now (view_of self.now).long }
+        ensures { result ≡ bare_needed (view_of self.now).cells
+            (span request.now (view_of self.now).long) }
+    {
+        bare_needed(self.cells.as_slice(), span_of(request, self.long))
     }
 
     /// Whether the request may be admitted: nothing is in doubt, and it is a change whose file is

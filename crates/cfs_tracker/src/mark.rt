@@ -91,12 +91,13 @@ impl<S: Drop, D: Drop, B: Drop> Tracker<S, D, B> {
     }
 
     /// The slots that `take_waiting` gave come back: the change at the place is a no-op, covered by
-    /// the later one at `by`, or, where that was not kept, its mark failed.
+    /// the later one at `by`, or, where that was not kept, its mark failed. That is an event where
+    /// the later one may cover it, as it may where `next_mark` named the place.
     pub fn marked(&mut self, place: u64, by: u64, slots: S, kept: bool)
-        requires { is_marking_by (view_of self.old) place by ≡ true }
         ensures view { view_of self.new ≡ marked place slots kept (view_of self.old) }
         ensures room { KeepsRoom self.old self.new }
-        ensures follows { (core : Core) → Follows (view_of self.old) core →
+        ensures follows { (core : Core) → is_marking_by (view_of self.old) place by ≡ true →
+            Follows (view_of self.old) core →
             (may core (events.Mark place by kept) ≡ true)
             × Follows (view_of self.new) (after core (events.Mark place by kept)) }
     {
