@@ -27,7 +27,8 @@ use Rattle.cfs_inode.proofs.Works.{cell-told}
 pub home-is : {B : Type 0} (cell : Cell B) (home : B) → is_home cell ≡ true →
     Some home ≡ held_in cell → cell ≡ kinds.Home home
 home-is kinds.Hole home own held = cc
-home-is (kinds.Home block) home own held = (let same : home ≡ block = cc in ap kinds.Home (sym same))
+home-is (kinds.Home block) home own held =
+    (let same : home ≡ block = cc in ap kinds.Home (sym same))
 home-is (kinds.Unsure block) home own held = cc
 home-is (kinds.Lent place) home own held = cc
 home-is (kinds.Moving is_sure) home own held = cc
@@ -184,7 +185,8 @@ pub copied-more : (cells : CellsSeen) (xs ys : List ℕ) (from to block start en
     (i : ℕ) → i < length xs → from + i < BLOCK_LEN * (block + 1) →
     get_or (put_mid (start - from) (end - from - (start - from)) xs ys) i 0
     ≡ byte_in cells (from + i)
-copied-more cells xs ys from to block start end all here begins ends some long before piece i within low =
+copied-more cells xs ys from to block start end all here begins ends some long before piece i
+    within low =
     let room : start - from ≤ length xs = omega (arith, all, begins, here.some, here.low) in
     elim (cases_lt i (start - from)) [
       | inl below ↦
@@ -221,7 +223,8 @@ cleared state xs ys from stored is long bytes clear =
     let want : get_or (stored_from state from (length xs)) i 0 ≡ stored_byte state (from + i) =
     get_or-map-range_with_len (λ p. stored_byte state p) from (length xs) i (from + i) 0 within
     refl in
-    let same : get_or ys i 0 ≡ stored_byte state (from + i) = elim (cases_Bool (nat_lt i (stored - from))) [
+    let same : get_or ys i 0 ≡ stored_byte state (from + i) =
+    elim (cases_Bool (nat_lt i (stored - from))) [
       | inl low ↦
           let under : nat_lt (from + i) state.tracker.stored ≡ true = grind (arith, nat_tests) in
           clear i within ∙ rw (low, under) (bytes i within)
@@ -234,9 +237,16 @@ cleared state xs ys from stored is long bytes clear =
 pub put-long : (a k : ℕ) (xs ys : List ℕ) → a + k ≤ length xs → length ys ≡ k →
     length (put_mid a k xs ys) ≡ length xs
 put-long a k xs ys room long =
-    omega (arith, room, long, length-append (take a xs) (ys ++ drop k (drop a xs)),
-    length-append ys (drop k (drop a xs)), length-take a xs, length-drop k (drop a xs),
-    length-drop a xs)
+    omega (
+      arith,
+      room,
+      long,
+      length-append (take a xs) (ys ++ drop k (drop a xs)),
+      length-append ys (drop k (drop a xs)),
+      length-take a xs,
+      length-drop k (drop a xs),
+      length-drop a xs,
+    )
 
 pub part-long : (a k : ℕ) (xs : List ℕ) → a + k ≤ length xs → length (take k (drop a xs)) ≡ k
 part-long a k xs room = omega (arith, room, length-take k (drop a xs), length-drop a xs)

@@ -226,7 +226,9 @@ shown ino size stored blocks core given file =
     }
   where
     size-is : (core : Core) → is_size core core.size ≡ true
-    size-is core = (let own : (core.size == core.size) ≡ true = grind (arith, nat_tests) in rw own refl)
+    size-is core =
+        let own : (core.size == core.size) ≡ true = grind (arith, nat_tests) in
+        rw own refl
 
 -- ---- the state follows the core
 

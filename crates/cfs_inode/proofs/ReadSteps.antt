@@ -31,7 +31,8 @@ range-more a (suc n) =
     ∙ ap (λ k. range_with_len (a + 1) n ++ k ∷ [])
     (let same : a + 1 + n ≡ a + suc n = omega arith in same))
 
-pub range-both : (a n m : ℕ) → range_with_len a (n + m) ≡ range_with_len a n ++ range_with_len (a + n) m
+pub range-both : (a n m : ℕ) →
+    range_with_len a (n + m) ≡ range_with_len a n ++ range_with_len (a + n) m
 range-both a zero m =
     ap (λ k. range_with_len a k) (let same : 0 + m ≡ m = omega arith in same)
     ∙ ap (λ k. range_with_len k m) (let same : a ≡ a + 0 = omega arith in same)
@@ -61,7 +62,8 @@ stops-behind : (xs ys : List ℕ) (asked_old asked_mid asked_new : List Asked) �
     asked_mid ≡ all_allowed read_ask ys ++ asked_old → ReadsStop xs asked_mid asked_new →
     ReadsStop (xs ++ ys) asked_old asked_new
 stops-behind xs ys asked_old asked_mid asked_new mid stop =
-    let some : 0 < length (drop stop.left xs) = omega (arith, stop.within, length-drop stop.left xs) in
+    let some : 0 < length (drop stop.left xs) =
+    omega (arith, stop.within, length-drop stop.left xs) in
     record {
       left = stop.left;
       within = omega (arith, stop.within, length-append xs ys);
@@ -127,8 +129,8 @@ read-stops cells a n m asked_old asked_mid asked_new before stop =
 
 -- ---- one call on a block
 
-pub read-once : {T E : Type 0} (device : ℕ) (result : Result T E) (asked_old asked_new : List Asked) →
-    asked_new ≡ Step device false (is_ok result) ∷ asked_old →
+pub read-once : {T E : Type 0} (device : ℕ) (result : Result T E)
+    (asked_old asked_new : List Asked) → asked_new ≡ Step device false (is_ok result) ∷ asked_old →
     Reads (device ∷ []) result asked_old asked_new
 read-once device (Ok done) asked_old asked_new is = is
 read-once device (Err fault) asked_old asked_new is =

@@ -89,7 +89,8 @@ no-lender : (cells : CellsSeen) (a n k : ℕ) → first_lender cells (range_with
     a ≤ k → k < a + n → holder cells (Some k) ≡ None
 no-lender cells a zero k none low high = absurd (omega arith)
 no-lender cells a (suc n) k none low high =
-    let both_ = or-none (holder cells (Some a)) (first_lender cells (range_with_len (a + 1) n)) none in
+    let both_ = or-none (holder cells (Some a)) (first_lender cells (range_with_len (a + 1) n))
+    none in
     elim (same_or_not k a) [
       | inl same ↦ rw same both_.0
       | inr apart ↦ no-lender cells (a + 1) n k both_.1 (omega (arith, apart)) (omega arith)

@@ -185,8 +185,8 @@ needed-told tell span (doings.Out first second) = refl
 needed-told tell span (doings.Covered slots) = refl
 needed-told tell span doings.Closing = refl
 
-first-place-told : {S T : Type 0} (tell : S → T) (test : Pending S → Bool) (now : Pending T → Bool) →
-    ((e : Pending S) → now (told_entry tell e) ≡ test e) → (es : List (Pending S)) →
+first-place-told : {S T : Type 0} (tell : S → T) (test : Pending S → Bool)
+    (now : Pending T → Bool) → ((e : Pending S) → now (told_entry tell e) ≡ test e) → (es : List (Pending S)) →
     place_of (find now (map (told_entry tell) es)) ≡ place_of (find test es)
 first-place-told tell test now same es =
     ap place_of (find-told tell test now same es) ∙ place-told tell (find test es)

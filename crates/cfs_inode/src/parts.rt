@@ -10,8 +10,8 @@ use cfs_slot::{Doubt, Live};
 use cfs_tracker::Parts;
 
 impl<R: Region + Drop, B: Block + Drop> InodeState<R, B> {
-    /// The region of the size word; and the slots of what is pending and in doubt, and of each block
-    /// of the file, by its number, what stands for it.
+    /// The region of the size word; and the slots of what is pending and in doubt, and of each
+    /// block of the file, by its number, what stands for it.
     pub fn into_parts(self) -> (R, Parts<Live<R>, Doubt<R>, B>)
         ensures size { R.seen result.0 ≡ (state_view R.seen B.seen self).size }
         ensures entries { map (told_entry (held_of R.seen)) result.1.entries.items ≡

@@ -58,9 +58,9 @@ fn clear_from(out: &mut [u8], from: u64)
 }
 
 impl<R: Region + Drop, B: Block + Drop> InodeState<R, B> {
-    /// Answers the pending read at a place: fills `out`, which has room for its bytes, with the stored
-    /// ones. A sync has none. Each block at home that holds one of them is read once. Refuses for a
-    /// device fault alone: then the read is pending as before, and `out` may hold any bytes.
+    /// Answers the pending read at a place: fills `out`, which has room for its bytes, with the
+    /// stored ones. A sync has none. Each block at home that holds one of them is read once. Fails
+    /// for a device fault alone: then the read is pending as before, and `out` may hold any bytes.
     pub fn serve<P: Power>(&mut self, power: &mut P, place: u64, out: &mut [u8]) -> ServeAnswer
         requires { IsRead (state_view R.seen B.seen self.old) place (length out.old) }
         ensures serves { Serves B.obeys_power place result out.new
@@ -165,8 +165,8 @@ impl<R: Region + Drop, B: Block + Drop> InodeState<R, B> {
         Ok(())
     }
 
-    /// Fills `out` with the bytes of a block of the file from one of them on: of the block that is at
-    /// home there, which is read once, or zeros.
+    /// Fills `out` with the bytes of a block of the file from one of them on: of the block that is
+    /// at home there, which is read once, or zeros.
     fn copy_block<P: Power>(
         &mut self,
         power: &mut P,
@@ -178,7 +178,8 @@ impl<R: Region + Drop, B: Block + Drop> InodeState<R, B> {
         ensures view { state_view R.seen B.seen self.new ≡ state_view R.seen B.seen self.old }
         ensures size { length out.new ≡ length out.old }
         ensures bytes { OnOk result ((i : ℕ) → i < length out.old → get_or out.new i 0 ≡
-            home_byte (cell_at (state_view R.seen B.seen self.old).tracker.cells block) (from + i)) }
+            home_byte (cell_at (state_view R.seen B.seen self.old).tracker.cells block)
+            (from + i)) }
         ensures makes { CallMakes []
             (P.asked power.old) (state_view R.seen B.seen self.old)
             (P.asked power.new) (state_view R.seen B.seen self.old) }

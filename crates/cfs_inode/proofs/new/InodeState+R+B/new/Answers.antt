@@ -19,5 +19,5 @@ returns-in-Ok-clause-stands g c =
     Together s [] core (stored_world size []))
     (sym (returns-in-Ok-clause-view g c))
     (λ core empty.
-    stored-stands c.args.ino size 0 [] (none-stored c.args.ino size c.requires.sure c.requires.empty)
-    core (empty-file core empty))
+    stored-stands c.args.ino size 0 []
+    (none-stored c.args.ino size c.requires.sure c.requires.empty) core (empty-file core empty))

@@ -34,8 +34,16 @@ pub slice_bounds-piece-end : goal.slice_bounds-piece-end
 slice_bounds-piece-end g c =
     let here = is-between c.args.from c.args.to c.loop-block.block c.loop-block.auto.block
     (subst (λ n. c.loop-block.block < n) c.end_block-block-end.ensures c.loop-block-test.true) in
-    omega (arith, here.some, here.low, here.high, c.requires, c.loop-block.invariant.size,
-    c.max-start.ensures, c.min.ensures)
+    omega (
+      arith,
+      here.some,
+      here.low,
+      here.high,
+      c.requires,
+      c.loop-block.invariant.size,
+      c.max-start.ensures,
+      c.min.ensures,
+    )
 
 pub loop-block-preserved : goal.loop-block-preserved
 loop-block-preserved g c =
@@ -117,8 +125,12 @@ returns-in_err-copy_block-clause-reads g c = λ obeys.
 pub returns-clause-bytes : goal.returns-clause-bytes
 returns-clause-bytes g c = λ i less.
     c.loop-block.invariant.bytes i (subst (λ n. i < n) (sym c.loop-block.invariant.size) less)
-    (omega (arith, c.loop-block-test.false, c.end_block-block-end.ensures,
-    past-end c.args.from c.args.to i (subst (λ n. i < n) c.requires less)))
+    (omega (
+      arith,
+      c.loop-block-test.false,
+      c.end_block-block-end.ensures,
+      past-end c.args.from c.args.to i (subst (λ n. i < n) c.requires less),
+    ))
 
 pub returns-clause-reads : goal.returns-clause-reads
 returns-clause-reads g c = λ obeys.
