@@ -11,6 +11,11 @@ pub mod Quiet
 pub mod Composing
 pub mod Dispatches
 pub mod States
+pub mod News
+pub mod Works
+pub mod Serving
+pub mod Copies
+pub mod ReadSteps
 pub mod MarkTells
 pub mod Marks
 pub mod Blocks
@@ -39,3 +44,4 @@ pub mod Admittings
 pub mod Serving
 pub mod Copies
 pub mod ReadSteps
+pub mod TagTells

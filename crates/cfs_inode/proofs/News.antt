@@ -244,6 +244,11 @@ held-is cell None seen is held =
 held-is cell (Some one) seen is held =
     (let some : held_in cell ≡ Some one = rw is refl in sym some ∙ held)
 
+at-rest : (ino k : ℕ) (cell : Cell (Seen BlockStep)) (here : Option (Seen BlockStep)) →
+    cell ≡ home_or here kinds.Hole → IsAtRest ino k cell
+at-rest ino k cell None is = rw is tt
+at-rest ino k cell (Some seen) is = rw is tt
+
 hole-at : (n k : ℕ) → cell_at {B = Seen BlockStep} (replicate n kinds.Hole) k ≡ kinds.Hole
 hole-at zero k = refl
 hole-at (suc n) zero = refl
@@ -259,11 +264,6 @@ stored-cell ino stored blocks k are less =
     homes-at ino 0 blocks (replicate FILE_BLOCKS kinds.Hole) k are
     (subst (λ n. k < n) (sym long) less)
     ∙ ap (home_or (seen_for blocks k)) (hole-at FILE_BLOCKS k)
-
-rest-stored : (ino block : ℕ) (here : Option (Seen BlockStep)) →
-    IsAtRest ino block (home_or here kinds.Hole)
-rest-stored ino block None = tt
-rest-stored ino block (Some seen) = tt
 
 pub stored-stands : (ino : ℕ) (size : Seen WordStep) (stored : ℕ) (blocks : List MappedSeen) →
     IsStored ino size stored blocks →
@@ -293,9 +293,8 @@ stored-stands ino size stored blocks given = λ core file. record {
         held-is (cell_at (stored_state ino size stored blocks).tracker.cells k) (seen_for blocks k)
         seen (stored-cell ino stored blocks k given.mapped less) has;
     rest = λ k less.
-        subst (λ cell. IsAtRest ino k cell)
-        (sym (stored-cell ino stored blocks k given.mapped less))
-        (rest-stored ino k (seen_for blocks k));
+        at-rest ino k (cell_at (stored_state ino size stored blocks).tracker.cells k)
+        (seen_for blocks k) (stored-cell ino stored blocks k given.mapped less);
   };
   out = tt;
   once = tt;

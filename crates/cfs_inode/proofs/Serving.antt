@@ -1,7 +1,7 @@
 -- A read is answered with the stored bytes.
 use Rattle.std.proofs.Common.{◌≡◌, ◌∙◌, ◌+◌, ◌-◌, ◌*◌, ◌/◌, ◌%◌, ◌<◌, ◌≤◌, ◌==◌, ◌&&◌, ◌++◌, ap, append-nil, arith, inl, inr, List, [], ◌∷◌, map, length, get_or, Option, None, Some, refl, subst, sym, true, false, Bool, ℕ, zero, suc, if◌then◌else◌}
 use Rattle.std.specs.Prelude.{is_some, nat_lt}
-use Rattle.std.specs.List.{list_all, range_with_len}
+use Rattle.std.specs.List.{range_with_len}
 use Rattle.std.specs.Option.{option_or}
 use Rattle.std.proofs.lemmas.Bool.{cases_Bool, cases_lt}
 use Rattle.std.proofs.lemmas.Bool.Decides.{nat_tests}
@@ -46,7 +46,7 @@ use Rattle.cfs_tracker.proofs.Tracks.{in-log}
 use Rattle.cfs_inode.specs.Makes.{CallMakes}
 use Rattle.cfs_inode.specs.Reads.{QuietlyMakes, without_read}
 use Rattle.cfs_inode.specs.Serves.{CellsSeen, blocks_between, byte_in, count_of, end_block, first_lender, home_byte, lender_in, stored_byte, stored_bytes}
-use Rattle.cfs_inode.specs.Stands.{Stands, Together}
+use Rattle.cfs_inode.specs.Stands.{IsAtRest, Stands, Together}
 use Rattle.cfs_inode.specs.View.{StateView}
 use Rattle.cfs_inode.proofs.Composing.{makes-then}
 use Rattle.cfs_inode.proofs.Goods.{good}
@@ -121,12 +121,24 @@ byte-of cells k (kinds.Lent place) core tag j stands free still home = cc
 byte-of cells k (kinds.Moving true) core tag j stands free still home = cc
 byte-of cells k (kinds.Moving false) core tag j stands free still home = rw stands refl
 
-still-at : (cells : CellsSeen) (k : ℕ) → list_all (λ cell. is_still cell) cells ≡ true →
-    is_still (cell_at cells k) ≡ true
-still-at [] k h = refl
-still-at (cell ∷ cells) zero h = (both (is_still cell) (list_all (λ c. is_still c) cells) h).0
-still-at (cell ∷ cells) (suc k) h =
-    still-at cells k (both (is_still cell) (list_all (λ c. is_still c) cells) h).1
+still-is : (ino k : ℕ) (cell : Cell (Seen BlockStep)) → IsAtRest ino k cell → is_still cell ≡ true
+still-is ino k kinds.Hole rest = refl
+still-is ino k (kinds.Home seen) rest = refl
+still-is ino k (kinds.Unsure seen) rest = refl
+still-is ino k (kinds.Lent place) rest = refl
+still-is ino k (kinds.Moving is_sure) rest = absurd rest
+
+-- no block is in a caller's hands
+still-at : (state : StateView) (core : Core) (world : World) (k : ℕ) → Stands state core world →
+    is_still (cell_at state.tracker.cells k) ≡ true
+still-at state core world k stands = elim (cases_lt k FILE_BLOCKS) [
+  | inl less ↦ still-is state.ino k (cell_at state.tracker.cells k) (stands.rest k less)
+  | inr past ↦
+      let hole : cell_at state.tracker.cells k ≡ kinds.Hole =
+      get_or_past state.tracker.cells k kinds.Hole
+      (subst (λ n. n ≤ k) (sym stands.follows.many) past) in
+      rw hole refl
+]
 
 -- the cell of any block stands, past the file too
 cell-stands : (state : StateView) (core : Core) (world : World) (k : ℕ) → Stands state core world →
@@ -161,10 +173,9 @@ home-byte state core world k j stands full less seen is on = elim (cases_lt k FI
 
 byte-at : (state : StateView) (core : Core) (world : World) (p : ℕ) →
     Stands state core world → AreFull state.tracker.cells →
-    list_all (λ cell. is_still cell) state.tracker.cells ≡ true →
     is_some (lent_to (cell_at state.tracker.cells (p / BLOCK_LEN))) ≡ false →
     stored_byte state p ≡ reads core p
-byte-at state core world p stands full still free =
+byte-at state core world p stands full free =
     let k = p / BLOCK_LEN in
     let j = p % BLOCK_LEN in
     let here : BLOCK_LEN * k + j ≡ p = omega arith in
@@ -173,7 +184,7 @@ byte-at state core world p stands full still free =
     subst (λ q. byte_in state.tracker.cells p
     ≡ (if is_on (get_or core.tags k Off) then get_or core.bytes q 0 else 0)) here
     (byte-of state.tracker.cells k (cell_at state.tracker.cells k) core (get_or core.tags k Off) j
-    (cell-stands state core world k stands) free (still-at state.tracker.cells k still)
+    (cell-stands state core world k stands) free (still-at state core world k stands)
     (home-byte state core world k j stands full (omega arith))) in
     elim (cases_Bool (nat_lt p state.tracker.stored)) [
       | inl low ↦ rw (stands.follows.size, low) stored
@@ -184,10 +195,9 @@ byte-at state core world p stands full still free =
 
 pub are-stored : (state : StateView) (core : Core) (world : World) (span : Span) →
     Stands state core world → AreFull state.tracker.cells →
-    list_all (λ cell. is_still cell) state.tracker.cells ≡ true →
     lender_in state.tracker.cells (start_of span) (end_of span) ≡ None →
     are_stored core span (stored_bytes state span) ≡ true
-are-stored state core world span stands full still free =
+are-stored state core world span stands full free =
     let from = start_of span in
     let count = count_of span in
     let long : length (stored_bytes state span) ≡ count =
@@ -201,7 +211,7 @@ are-stored state core world span stands full still free =
     get_or-map-range_with_len (λ q. stored_byte state q) from count (p - from) p 0 (omega arith)
     (omega arith) in
     let is : stored_byte state p ≡ reads core p =
-    byte-at state core world p stands full still
+    byte-at state core world p stands full
     (none-lent state.tracker.cells from (end_of span) p free low (omega (arith, low, high))) in
     let both_ : get_or (stored_bytes state span) (p - from) 0 ≡ reads core p = read ∙ is in
     grind (arith, nat_tests)) in
@@ -268,16 +278,16 @@ pub serve-made : (old : StateView) (place : ℕ) (read : Reading) →
     read_at old.tracker.reads place ≡ Some read →
     blocker_of old.tracker.entries (read_at old.tracker.reads place) ≡ None →
     lender_in old.tracker.cells (start_of read.span) (end_of read.span) ≡ None →
-    AreFull old.tracker.cells → list_all (λ cell. is_still cell) old.tracker.cells ≡ true →
+    AreFull old.tracker.cells →
     QuietlyMakes (events.Serve place (Some (stored_bytes old read.span)) ∷ []) old
     (without_read place old)
-serve-made old place read there ready free full still = λ asked jobs core world together.
+serve-made old place read there ready free full = λ asked jobs core world together.
     let stands = together.stands in
     let bytes = stored_bytes old read.span in
     let is = read-is old.tracker core place read stands.follows there in
     let stored : are_stored core (track core.tracks place).span bytes ≡ true =
     subst (λ s. are_stored core s bytes ≡ true) (sym is.unserved.span)
-    (are-stored old core world read.span stands full still free) in
+    (are-stored old core world read.span stands full free) in
     let pending : is_some (read_at old.tracker.reads place) ≡ true = rw there refl in
     let serves = follows-served old.tracker core place bytes pending ready stands.follows stored in
     let unserved : is_unserved (track core.tracks place).state ≡ true = rw is.unserved.state refl in

@@ -81,8 +81,10 @@ pub past-told : {S D B T E C : Type 0} (live : S → T) (doubt : D → E) (tell 
     (view : TrackerView S D B) (block : ℕ) →
     is_past (told live doubt tell view) block ≡ is_past view block
 past-told live doubt tell view block =
-    rw (any-live-told live (block_span block) view.entries,
-    doubt-in-told doubt (block_span block) view.doubt) refl
+    rw (
+      any-live-told live (block_span block) view.entries,
+      doubt-in-told doubt (block_span block) view.doubt,
+    ) refl
 
 find-alike : (f g : ℕ → Bool) → ((k : ℕ) → f k ≡ g k) → (xs : List ℕ) → find f xs ≡ find g xs
 find-alike f g alike [] = refl

@@ -5,6 +5,8 @@ pub mod Ends
 pub mod Opening
 pub mod Reads
 pub mod Jobs
+pub mod New
+pub mod Serves
 pub mod Marking
 pub mod Trims
 pub mod Covering
@@ -18,3 +20,4 @@ pub mod Mapping
 pub mod Placing
 pub mod Admitting
 pub mod Serves
+pub mod Tagging

@@ -1,11 +1,9 @@
 //! Reads are answered.
 
-ghost use Rattle.std.specs.Prelude.{◌≡◌, ◌+◌, ◌-◌, ◌<◌, ◌≤◌, ℕ, IsTrue, OnOk, [], get_or, if◌then◌else◌, length, nat_lt, true};
-ghost use Rattle.std.specs.List.{list_all};
+ghost use Rattle.std.specs.Prelude.{◌≡◌, ◌+◌, ◌-◌, ◌<◌, ◌≤◌, ℕ, IsTrue, OnOk, [], get_or, if◌then◌else◌, length, nat_lt};
 ghost use Rattle.cfs_file.specs.declared.sizes.TheConstants.{BLOCK_LEN};
 ghost use Rattle.cfs_core.specs.Words.{end_of, start_of};
 ghost use Rattle.cfs_tracker.specs.Cells.{cell_at};
-ghost use Rattle.cfs_tracker.specs.Dispatch.{is_still};
 ghost use Rattle.cfs_inode.specs.Makes.{CallMakes};
 ghost use Rattle.cfs_inode.specs.Serves.{IsRead, IsReadOf, Reads, Serves, blocks_between, byte_in, end_block, home_byte, home_device, home_devices, lender_in, serve_events, stored_from, waits_for};
 ghost use Rattle.cfs_inode.specs.View.{state_view};
@@ -64,9 +62,7 @@ impl<R: Region + Drop, B: Block + Drop> InodeState<R, B> {
     /// stored ones. A sync has none. Each block at home that holds one of them is read once. Fails
     /// for a device fault alone: then the read is pending as before, and `out` may hold any bytes.
     pub fn serve<P: Power>(&mut self, power: &mut P, place: u64, out: &mut [u8]) -> ServeAnswer
-        requires read { IsRead (state_view R.seen B.seen self.old) place (length out.old) }
-        requires still { list_all (λ cell. is_still cell)
-            (state_view R.seen B.seen self.old).tracker.cells ≡ true }
+        requires { IsRead (state_view R.seen B.seen self.old) place (length out.old) }
         ensures serves { Serves B.obeys_power place result out.new
             (P.asked power.old) (state_view R.seen B.seen self.old)
             (P.asked power.new) (state_view R.seen B.seen self.new) }

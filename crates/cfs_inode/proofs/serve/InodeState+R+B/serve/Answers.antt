@@ -75,8 +75,8 @@ returns-in-Ok-clause-serves g c =
     let there : read_at state.tracker.reads c.args.place ≡ Some c.in-Some.read =
     sym c.read.ensures ∙ c.in-Some.is in
     let bytes = bytes-are state c.args.place c.start_of-from.result (length c.args.out.now)
-    c.in-Some.read c.requires.read.read c.copy.new.out there c.requires.read.there
-    c.start_of-from.ensures c.requires.read.room c.in-Ok.ensures.bytes in
+    c.in-Some.read c.requires.read c.copy.new.out there c.requires.there
+    c.start_of-from.ensures c.requires.room c.in-Ok.ensures.bytes in
     let devices = devices-are state c.args.place c.start_of-from.result c.end_of-to.result
     c.in-Some.read there c.start_of-from.ensures c.end_of-to.ensures in (
       sym c.waits_for.ensures ∙ c.in_default-waits_for.is,
@@ -105,14 +105,14 @@ returns-in-Ok-clause-makes g c =
     let is = is-ready state place c.in-Some.read there
     (sym c.waits_for.ensures ∙ c.in_default-waits_for.is) in
     let bytes = bytes-are state place c.start_of-from.result (length c.args.out.now)
-    c.in-Some.read c.requires.read.read c.copy.new.out there c.requires.read.there
-    c.start_of-from.ensures c.requires.read.room c.in-Ok.ensures.bytes in
+    c.in-Some.read c.requires.read c.copy.new.out there c.requires.there
+    c.start_of-from.ensures c.requires.room c.in-Ok.ensures.bytes in
     let view = state-dropped g.R.Region.seen g.B.Block.seen c.copy.new.self c.served.new.self place
     c.served.ensures.view ∙ ap (without_read place) c.copy.ensures.view in
     let made = serve-makes state place (stored_bytes state c.in-Some.read.span) asked_old asked_new
     c.copy.ensures.makes
     (serve-made state place c.in-Some.read there is.ready is.free
-    (full g.R.Region.seen g.B.Block.seen c.args.self.now g.met.B.Block.full) c.requires.still) in
+    (full g.R.Region.seen g.B.Block.seen c.args.self.now g.met.B.Block.full)) in
     subst (λ (s : StateView).
     CallMakes (events.Serve place (Some c.copy.new.out) ∷ []) asked_old state asked_new s)
     (sym view)

@@ -45,8 +45,11 @@ trimmed-requires-clause-moving g c =
     subst (λ (v : TrackerView _ _ _). is_moving (cell_at v.cells c.in-Some.block) ≡ true)
     (sym c.in-Some-take_block.ensures.view)
     (moving-here view.cells c.in-Some.block c.in-Some-take_block.home
-    (omega (arith, past-low view c.in-Some.block c.in-Some.ensures.past,
-    c.args.self.now.tracker.covers_file)) (sym c.in-Some-take_block.ensures.block))
+    (omega (
+      arith,
+      past-low view c.in-Some.block c.in-Some.ensures.past,
+      c.args.self.now.tracker.covers_file,
+    )) (sym c.in-Some-take_block.ensures.block))
 
 pub trimmed-requires-in-Err-clause-moving : goal.trimmed-requires-in-Err-clause-moving
 trimmed-requires-in-Err-clause-moving g c =
@@ -54,8 +57,11 @@ trimmed-requires-in-Err-clause-moving g c =
     subst (λ (v : TrackerView _ _ _). is_moving (cell_at v.cells c.in-Some.block) ≡ true)
     (sym c.in-Some-take_block.ensures.view)
     (moving-here view.cells c.in-Some.block c.in-Some-take_block.home
-    (omega (arith, past-low view c.in-Some.block c.in-Some.ensures.past,
-    c.args.self.now.tracker.covers_file)) (sym c.in-Some-take_block.ensures.block))
+    (omega (
+      arith,
+      past-low view c.in-Some.block c.in-Some.ensures.past,
+      c.args.self.now.tracker.covers_file,
+    )) (sym c.in-Some-take_block.ensures.block))
 
 pub new-requires : goal.new-requires
 new-requires g c =
