@@ -25,8 +25,6 @@ pub mod TrimTells
 pub mod Coverings
 pub mod Taggings
 pub mod CoverTells
-pub mod News
-pub mod Works
 pub mod JobTells
 pub mod Givings
 pub mod EndTells
@@ -41,7 +39,3 @@ pub mod Mappings
 pub mod MapTells
 pub mod Placings
 pub mod Admittings
-pub mod Serving
-pub mod Copies
-pub mod ReadSteps
-pub mod TagTells

@@ -10,7 +10,6 @@ pub mod Serves
 pub mod Marking
 pub mod Trims
 pub mod Covering
-pub mod New
 pub mod Dispatching
 pub mod Backs
 pub mod Finishing
@@ -19,5 +18,3 @@ pub mod Tagging
 pub mod Mapping
 pub mod Placing
 pub mod Admitting
-pub mod Serves
-pub mod Tagging
