@@ -332,3 +332,11 @@ nothing-settled words bytes old new here no_slots is =
     (none-back (told_doubt (seens_of words)) (view_of new.tracker).doubt
     (ap (λ (s : StateView). s.tracker.doubt) is
     ∙ ap (λ d. told_option (told_doubt (seens_of words)) d) none))
+
+-- ---- the tests
+
+pub too-long : (n most : ℕ) → false ≡ nat_le n most → most < n
+too-long n most h = grind (arith, nat_tests)
+
+pub long-enough : (n most : ℕ) → true ≡ nat_le n most → n ≤ most
+long-enough n most h = grind (arith, nat_tests)

@@ -195,11 +195,6 @@ abbrev pub is_here : {D : Type 0} → Option (InDoubt D) → Bool
 is_here None = true
 is_here (Some doubt) = is_some doubt.slots
 
-abbrev pub freed_of : {R : Type 0} {g : _} {N : ℕ} → (R → Seen WordStep) →
-    Option (FixedVec (Slot R g) N) → Option Seens
-freed_of seen None = None
-freed_of seen (Some slots) = Some (map seen (of_slots slots))
-
 abbrev pub AdmissionMakes : Bool → Bool → Bool → Request → ℕ → Seens → Option Seens → AdmitEnd →
     List Asked → Blocks → StateView → List Asked → Blocks → StateView → Type 0
 AdmissionMakes obeys tags keeps request grant staged freed end asked_old stock_old old asked_new
