@@ -38,7 +38,8 @@ abbrev pub failed_end : {R : Type 0} {g : _} → (R → Seen WordStep) → Optio
 failed_end seen (Some staged) = refused (staged_seens seen staged)
 failed_end seen None = doubted
 
-abbrev pub admit_end : {R : Type 0} {g : _} → (R → Seen WordStep) → AdmitAnswer R g → AdmitEnd
+abbrev pub admit_end : {R : Type 0} {g : _} → (R → Seen WordStep) → AdmitAnswer (Staged R g) →
+    AdmitEnd
 admit_end seen (answers.Admitted place offset count marked) = admitted place offset count marked
 admit_end seen (answers.TooBig long staged) = too_big long (staged_seens seen staged)
 admit_end seen (answers.NeedBlocks need staged) = need_blocks need (staged_seens seen staged)

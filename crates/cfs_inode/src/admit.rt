@@ -55,7 +55,7 @@ impl<R: Region + Drop, B: Block + Drop> InodeState<R, B> {
         power: &mut P,
         request: &Request,
         staged: Staged<R>,
-    ) -> AdmitAnswer<R>
+    ) -> AdmitAnswer<Staged<R>>
         requires admits { MayAdmit (view_of self.old.tracker) request.now }
         requires places { (view_of self.old.tracker).count + 1 < 2 ^ 64 }
         requires room { vec_len self.old.tracker.entries < vec_capacity self.old.tracker.entries }
@@ -90,7 +90,7 @@ impl<R: Region + Drop, B: Block + Drop> InodeState<R, B> {
         request: &Request,
         staged: Staged<R>,
         stock: &mut FixedVec<ZeroBlock<B>, N>,
-    ) -> AdmitAnswer<R>
+    ) -> AdmitAnswer<Staged<R>>
         requires ino { self.old.ino < 2 ^ 32 }
         requires settled { (view_of self.old.tracker).doubt ≡ None }
         requires change { is_change request.now ≡ true }
@@ -125,8 +125,8 @@ impl<R: Region + Drop, B: Block + Drop> InodeState<R, B> {
     }
 
     /// Admits a change that was staged for this inode, with blocks of a stock, and marks what it
-    /// covers. Settles the request in doubt first, if there is one: its slots are given back in
-    /// `settled`, which tells what became of it. Whether the grant of the slots still stands is for the caller to see.
+    /// covers. Settles the request in doubt first, if there is one: `settled` tells what became of it,
+    /// with its slots. Whether the grant of the slots still stands is for the caller to see.
     ///
     /// It refuses before any step, in this order: `TooBig` exactly where the file would pass its
     /// longest length, and `NeedBlocks` exactly where the stock has fewer blocks than there are
@@ -139,7 +139,7 @@ impl<R: Region + Drop, B: Block + Drop> InodeState<R, B> {
         staged: Staged<R>,
         stock: &mut FixedVec<ZeroBlock<B>, N>,
         settled: &mut CloseAnswer<FixedVec<Slot<R>, QUEUE_SLOTS>>,
-    ) -> AdmitAnswer<R>
+    ) -> AdmitAnswer<Staged<R>>
         requires ino { self.old.ino < 2 ^ 32 }
         // The slots of a request in doubt are here, as between calls.
         requires here { is_here (view_of self.old.tracker).doubt ≡ true }

@@ -1,11 +1,8 @@
 //! What an admission answers.
 
-use cfs_pmem::Region;
-use cfs_slot::Staged;
-
-/// What an admission answers.
+/// What an admission answers. `S` is the slots of a staged request, which may come back.
 #[derive(Drop)]
-pub enum AdmitAnswer<R: Region> {
+pub enum AdmitAnswer<S> {
     /// It has this place. It stands at `offset`, a truncate at its length, and has `count` bytes;
     /// so many earlier changes became no-ops.
     Admitted {
@@ -15,9 +12,9 @@ pub enum AdmitAnswer<R: Region> {
         marked: u64,
     },
     /// The file would be too long. It has this length.
-    TooBig { length: u64, staged: Staged<R> },
+    TooBig { length: u64, staged: S },
     /// It takes so many blocks, and the stock has fewer.
-    NeedBlocks { need: u64, staged: Staged<R> },
+    NeedBlocks { need: u64, staged: S },
     /// A device fault; without its slots the request is in doubt.
-    Failed { staged: Option<Staged<R>> },
+    Failed { staged: Option<S> },
 }

@@ -102,9 +102,8 @@ admit_settled-requires g c =
     (search rules,
     (search rules,
     (search rules,
-    (search rules,
     (ino, (settled, (change, (fits, (stocked, (places, (room, (file,
-    (c.requires.staged, c.requires.sure))))))))))))))
+    (c.requires.staged, c.requires.sure)))))))))))))
 
 pub admit_settled-requires-in-Nothing : goal.admit_settled-requires-in-Nothing
 admit_settled-requires-in-Nothing g c =
@@ -138,9 +137,8 @@ admit_settled-requires-in-Nothing g c =
     (search rules,
     (search rules,
     (search rules,
-    (search rules,
     (ino, (settled, (change, (fits, (stocked, (places, (room, (file,
-    (c.requires.staged, c.requires.sure))))))))))))))
+    (c.requires.staged, c.requires.sure)))))))))))))
 
 pub returns-in-Closed : goal.returns-in-Closed
 returns-in-Closed g c =

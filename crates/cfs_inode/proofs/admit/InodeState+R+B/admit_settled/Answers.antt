@@ -41,8 +41,7 @@ admit_ready-requires g c =
     let sure = is.sure in
     (search rules,
     (search rules,
-    (search rules,
-    (search rules, (admits, (places, (room, (file, (holds, sure)))))))))
+    (search rules, (admits, (places, (room, (file, (holds, sure))))))))
 
 pub returns-then-not-place : goal.returns-then-not-place
 returns-then-not-place g c =
