@@ -15,9 +15,17 @@ pub enum AdmitAnswer<R: Region> {
         marked: u64,
     },
     /// The file would be too long. It has this length.
-    TooBig { length: u64, staged: Staged<R> },
+    TooBig {
+        length: u64,
+        staged: Staged<R>,
+    },
     /// It takes so many blocks, and the stock has fewer.
-    NeedBlocks { need: u64, staged: Staged<R> },
+    NeedBlocks {
+        need: u64,
+        staged: Staged<R>,
+    },
     /// A device fault; without its slots the request is in doubt.
-    Failed { staged: Option<Staged<R>> },
+    Failed {
+        staged: Option<Staged<R>>,
+    },
 }
