@@ -64,8 +64,12 @@ pub stocked-told : {R B : Type 0} {g h : _} {N : ℕ} (words : R → Seen WordSt
     bare_needed (view_of state.tracker).cells span ≤ length (items_of stock) →
     bare_needed (state_view words bytes state).tracker.cells span ≤ length (stock_of bytes stock)
 stocked-told {R} {B} {g} {h} words bytes state stock span less =
-    omega (arith, less, state-bare words bytes state span,
-    length-map (items_of stock) (λ (z : ZeroBlock B h). bytes z.block))
+    omega (
+      arith,
+      less,
+      state-bare words bytes state span,
+      length-map (items_of stock) (λ (z : ZeroBlock B h). bytes z.block),
+    )
 
 pub stocked-back : {R B : Type 0} {g h : _} {N : ℕ} (words : R → Seen WordStep)
     (bytes : B → Seen BlockStep) (state : State R B (Live R g) (Doubt R g))
@@ -73,5 +77,9 @@ pub stocked-back : {R B : Type 0} {g h : _} {N : ℕ} (words : R → Seen WordSt
     bare_needed (state_view words bytes state).tracker.cells span ≤ length (stock_of bytes stock) →
     bare_needed (view_of state.tracker).cells span ≤ length (items_of stock)
 stocked-back {R} {B} {g} {h} words bytes state stock span less =
-    omega (arith, less, state-bare words bytes state span,
-    length-map (items_of stock) (λ (z : ZeroBlock B h). bytes z.block))
+    omega (
+      arith,
+      less,
+      state-bare words bytes state span,
+      length-map (items_of stock) (λ (z : ZeroBlock B h). bytes z.block),
+    )

@@ -365,15 +365,23 @@ stock-left : (cells : List (Cell (Seen BlockStep))) (block : ℕ) (home now : Se
     bare_needed (set cells block (tagged_cell now true)) span ≤ length stock_new
 stock-left cells block home now span stock_old stock_new (Some x) is taken less first unmapped stocked =
     let same : length stock_new ≡ length stock_old = ap length taken.1 in
-    omega (arith, same, stocked,
-    many-less (λ c. is_bare c) cells block (tagged_cell now true) (blocks_needed span) refl less)
+    omega (
+      arith,
+      same,
+      stocked,
+      many-less (λ c. is_bare c) cells block (tagged_cell now true) (blocks_needed span) refl less,
+    )
 stock-left cells block home now span stock_old stock_new None is taken less first unmapped stocked =
     let sizes : length stock_old ≡ length stock_new + 1 =
     ap length taken ∙ length-append stock_new (home ∷ []) in
     let bare = none-bare (cell_at cells block) unmapped is in
-    omega (arith, sizes, stocked,
-    many-fewer (λ c. is_bare c) (λ k. not (is_mapped (cell_at cells k))) cells block
-    (tagged_cell now true) (blocks_needed span) refl less bare first)
+    omega (
+      arith,
+      sizes,
+      stocked,
+      many-fewer (λ c. is_bare c) (λ k. not (is_mapped (cell_at cells k))) cells block
+          (tagged_cell now true) (blocks_needed span) refl less bare first,
+    )
 
 pub first-is : {B : Type 0} (cells : List (Cell B)) (span : Span) (block : ℕ) →
     first_unmapped cells span ≡ Some block → is_mapped (cell_at cells block) ≡ false
@@ -386,9 +394,12 @@ pub stock-some : {B : Type 0} (cells : List (Cell B)) (span : Span) (block n : �
     first_unmapped cells span ≡ Some block → bare_needed cells span ≤ n →
     is_bare (cell_at cells block) ≡ true → 0 < n
 stock-some cells span block n first stocked bare =
-    omega (arith, stocked,
-    many-some (λ c. is_bare c) (λ k. not (is_mapped (cell_at cells k))) cells block
-    (blocks_needed span) bare first)
+    omega (
+      arith,
+      stocked,
+      many-some (λ c. is_bare c) (λ k. not (is_mapped (cell_at cells k))) cells block
+          (blocks_needed span) bare first,
+    )
 
 pub mapping-next : (obeys keeps : Bool) (span : Span) (block : ℕ) (asked_old : List Asked)
     (stock_old : Blocks) (old : StateView) (asked : List Asked) (stock : Blocks)

@@ -12,9 +12,17 @@ pub enum AdmitAnswer<S> {
         marked: u64,
     },
     /// The file would be too long. It has this length.
-    TooBig { length: u64, staged: S },
+    TooBig {
+        length: u64,
+        staged: S,
+    },
     /// It takes so many blocks, and the stock has fewer.
-    NeedBlocks { need: u64, staged: S },
+    NeedBlocks {
+        need: u64,
+        staged: S,
+    },
     /// A device fault; without its slots the request is in doubt.
-    Failed { staged: Option<S> },
+    Failed {
+        staged: Option<S>,
+    },
 }

@@ -371,7 +371,11 @@ fn upgrade_saves_the_new_image_or_says_why_not(rt: HostRuntime) -> Result<(), Fa
         let mut shelf = shelf_of_images(alloc, failing)?;
         let ended = upgrade(alloc, &mut shelf, image, new, write)?;
         assert_eq!(rt; ended.status, status, "{image} {new}");
-        assert_eq!(rt; ended.output.as_slice(), expected.as_bytes(), "{image} {new}");
+        assert_eq!(rt;
+            ended.output.as_slice(),
+            expected.as_bytes(),
+            "{image} {new}"
+        );
         let kept = load(alloc, &mut shelf, "d")?;
         assert!(rt; kept.as_slice() == old.as_slice(), "{image} {new}");
     }
@@ -391,6 +395,9 @@ fn upgrade_saves_under_the_new_name(rt: HostRuntime) -> Result<(), Fail> {
     }
     let mut shelf = shelf_of_images(alloc, Some(1))?;
     let ended = upgrade(alloc, &mut shelf, "d", "f", None)?;
-    assert_eq!(rt; (ended.status, shelf.load_faults(), shelf.save_faults()), (Status::Shelf, 1, 0));
+    assert_eq!(rt;
+        (ended.status, shelf.load_faults(), shelf.save_faults()),
+        (Status::Shelf, 1, 0)
+    );
     Ok(())
 }

@@ -48,11 +48,13 @@ pub(crate) fn upgrade<K: Sink, H: Shelf>(
     };
     let upgraded = match upgrade_bytes(alloc, bytes.as_slice()) {
         Ok(upgraded) => upgraded,
-        Err(ImageRefusal::Damaged {
-            offset,
-            found,
-            against,
-        }) => return refuse(alloc, offset, found, against, output),
+        Err(
+            ImageRefusal::Damaged {
+                offset,
+                found,
+                against,
+            },
+        ) => return refuse(alloc, offset, found, against, output),
         Err(ImageRefusal::NoMemory) => return Status::NoMemory,
     };
     match shelf.save(new, upgraded.as_slice()) {
@@ -62,13 +64,7 @@ pub(crate) fn upgrade<K: Sink, H: Shelf>(
 }
 
 /// Writes which damage an image has.
-fn refuse<K: Sink>(
-    alloc: Global,
-    offset: u64,
-    found: u64,
-    against: u64,
-    output: &mut K,
-) -> Status
+fn refuse<K: Sink>(alloc: Global, offset: u64, found: u64, against: u64, output: &mut K) -> Status
     ensures said { ((result ≡ Status.NoMemory) × (K.written output.new ≡ K.written output.old))
         ⊎ Says result Status.Image
         (damaged_text record { offset = offset; found = found; against = against })
@@ -87,7 +83,8 @@ fn print_damage(alloc: Global, offset: u64, found: u64, against: u64) -> Result<
     ensures { IfOk result (λ text. string_bytes text ≡
         damaged_text record { offset = offset; found = found; against = against }) }
 {
-    let text =
-        format!(in alloc; "image refused: offset {offset} found {found} against {against}\n")?;
+    let text = format!(in alloc;
+        "image refused: offset {offset} found {found} against {against}\n"
+    )?;
     Ok(text)
 }

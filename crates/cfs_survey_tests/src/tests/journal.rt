@@ -122,13 +122,7 @@ fn answer(
     }
     let nodes = read_table(alloc, AT, words)?;
     let read = read_journal(
-        alloc,
-        AT as u32,
-        JOURNAL_AT,
-        nodes,
-        words[0],
-        through,
-        records,
+        alloc, AT as u32, JOURNAL_AT, nodes, words[0], through, records,
     );
     match read {
         Ok(tree) => tree_text(alloc, &tree),

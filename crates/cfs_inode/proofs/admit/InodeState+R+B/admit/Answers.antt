@@ -57,8 +57,13 @@ returns-then-len-need g c =
     let same : bare_needed old.tracker.cells own ≡ c.bare_needed-need.result =
     state-bare words bytes c.args.self.now own ∙ sym c.bare_needed-need.ensures in
     let few : length stock < bare_needed old.tracker.cells own =
-    omega (arith, c.if-len-need.true, c.len.ensures.value, same,
-    length-map (items_of c.args.stock.now) (λ z. bytes z.block)) in
+    omega (
+      arith,
+      c.if-len-need.true,
+      c.len.ensures.value,
+      same,
+      length-map (items_of c.args.stock.now) (λ z. bytes z.block),
+    ) in
     subst (λ (n : ℕ). AdmissionMakes g.R.Region.obeys_power g.B.Block.obeys_power
     g.B.Block.keeps_refused request grant staged None (need_blocks n staged) asked stock old asked
     stock old) same
@@ -90,20 +95,55 @@ admit_settled-requires g c =
     (span request (view_of new.tracker).long) ≤ length (items_of c.args.stock.now) =
     subst (λ (n : ℕ). bare_needed (view_of new.tracker).cells (span request n)
     ≤ length (items_of c.args.stock.now)) (sym is.long)
-    (omega (arith, is.bare (span request (view_of c.args.self.now.tracker).long),
-    c.if-len-need.false, c.len.ensures.value, c.bare_needed-need.ensures)) in
+    (omega (
+      arith,
+      is.bare (span request (view_of c.args.self.now.tracker).long),
+      c.if-len-need.false,
+      c.len.ensures.value,
+      c.bare_needed-need.ensures,
+    )) in
     let places : (view_of new.tracker).count + 1 < 18446744073709551616 =
     omega (arith, is.count, c.requires.places) in
     let room : vec_len new.tracker.entries < vec_capacity new.tracker.entries =
     omega (arith, c.settle.ensures.room.entries, c.requires.room) in
     let file : ino_of (words_of (words (of_staged c.args.staged))) ≡ new.ino =
-    c.requires.file ∙ sym same in
-    (search rules,
-    (search rules,
-    (search rules,
-    (search rules,
-    (ino, (settled, (change, (fits, (stocked, (places, (room, (file,
-    (c.requires.staged, c.requires.sure)))))))))))))
+    c.requires.file ∙ sym same in (
+      search rules,
+      (
+        search rules,
+        (
+          search rules,
+          (
+            search rules,
+            (
+              ino,
+              (
+                settled,
+                (
+                  change,
+                  (
+                    fits,
+                    (
+                      stocked,
+                      (
+                        places,
+                        (
+                          room,
+                          (
+                            file,
+                            (c.requires.staged, c.requires.sure),
+                          ),
+                        ),
+                      ),
+                    ),
+                  ),
+                ),
+              ),
+            ),
+          ),
+        ),
+      ),
+    )
 
 pub admit_settled-requires-in-Nothing : goal.admit_settled-requires-in-Nothing
 admit_settled-requires-in-Nothing g c =
@@ -125,20 +165,55 @@ admit_settled-requires-in-Nothing g c =
     (span request (view_of new.tracker).long) ≤ length (items_of c.args.stock.now) =
     subst (λ (n : ℕ). bare_needed (view_of new.tracker).cells (span request n)
     ≤ length (items_of c.args.stock.now)) (sym is.long)
-    (omega (arith, is.bare (span request (view_of c.args.self.now.tracker).long),
-    c.if-len-need.false, c.len.ensures.value, c.bare_needed-need.ensures)) in
+    (omega (
+      arith,
+      is.bare (span request (view_of c.args.self.now.tracker).long),
+      c.if-len-need.false,
+      c.len.ensures.value,
+      c.bare_needed-need.ensures,
+    )) in
     let places : (view_of new.tracker).count + 1 < 18446744073709551616 =
     omega (arith, is.count, c.requires.places) in
     let room : vec_len new.tracker.entries < vec_capacity new.tracker.entries =
     omega (arith, c.settle.ensures.room.entries, c.requires.room) in
     let file : ino_of (words_of (words (of_staged c.args.staged))) ≡ new.ino =
-    c.requires.file ∙ sym same in
-    (search rules,
-    (search rules,
-    (search rules,
-    (search rules,
-    (ino, (settled, (change, (fits, (stocked, (places, (room, (file,
-    (c.requires.staged, c.requires.sure)))))))))))))
+    c.requires.file ∙ sym same in (
+      search rules,
+      (
+        search rules,
+        (
+          search rules,
+          (
+            search rules,
+            (
+              ino,
+              (
+                settled,
+                (
+                  change,
+                  (
+                    fits,
+                    (
+                      stocked,
+                      (
+                        places,
+                        (
+                          room,
+                          (
+                            file,
+                            (c.requires.staged, c.requires.sure),
+                          ),
+                        ),
+                      ),
+                    ),
+                  ),
+                ),
+              ),
+            ),
+          ),
+        ),
+      ),
+    )
 
 pub returns-in-Closed : goal.returns-in-Closed
 returns-in-Closed g c =

@@ -38,10 +38,13 @@ admit_ready-requires g c =
     is.holds in
     let admits = may.admits in
     let file = same.ino ∙ (c.requires.file ∙ sym may.ino) in
-    let sure = is.sure in
-    (search rules,
-    (search rules,
-    (search rules, (admits, (places, (room, (file, (holds, sure))))))))
+    let sure = is.sure in (
+      search rules,
+      (
+        search rules,
+        (search rules, (admits, (places, (room, (file, (holds, sure)))))),
+      ),
+    )
 
 pub returns-then-not-place : goal.returns-then-not-place
 returns-then-not-place g c =

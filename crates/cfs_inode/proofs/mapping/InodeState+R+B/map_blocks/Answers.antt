@@ -49,11 +49,25 @@ tag-requires g c =
     omega (arith, c.loop-block.invariant.1, c.requires.ino) in
     let stocked : bare_needed view.cells own ≤ length (items_of c.loop-block.stock) =
     stocked-back g.R.Region.seen seen c.loop-block.self c.loop-block.stock own
-    c.loop-block.invariant.0.stocked in
-    (search rules,
-    (search rules,
-    (search rules, (ino, (less, (first-is view.cells own block first,
-    stock-some view.cells own block (length (items_of c.loop-block.stock)) first stocked))))))
+    c.loop-block.invariant.0.stocked in (
+      search rules,
+      (
+        search rules,
+        (
+          search rules,
+          (
+            ino,
+            (
+              less,
+              (
+                first-is view.cells own block first,
+                stock-some view.cells own block (length (items_of c.loop-block.stock)) first stocked,
+              ),
+            ),
+          ),
+        ),
+      ),
+    )
 
 pub returns-then-not-tag-clause-maps : goal.returns-then-not-tag-clause-maps
 returns-then-not-tag-clause-maps g c =
