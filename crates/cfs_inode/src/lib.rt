@@ -21,6 +21,7 @@ mod placing;
 mod put_back;
 mod reading;
 mod reads;
+mod room;
 mod serve;
 mod settle;
 mod size;
