@@ -7,9 +7,7 @@ use Rattle.cfs_block.specs.BlockImages.{BlockStep}
 use Rattle.cfs_core.specs.declared.flag.Flag.{Flag}
 use Rattle.cfs_core.specs.declared.flag.Flag.TheVariants as flags
 use Rattle.cfs_core.specs.declared.inode_core.Core.{Core}
-use Rattle.cfs_core.specs.declared.state.State.{State}
 use Rattle.cfs_core.specs.declared.state.State.TheVariants as states
-use Rattle.cfs_core.specs.declared.track.Track.{Track}
 use Rattle.cfs_core.specs.Words.{has_block, is_lease, track}
 use Rattle.cfs_core.proofs.Order.{same_or_not}
 use Rattle.cfs_job.specs.Steps.{core_job, lease_in}
@@ -21,11 +19,11 @@ use Rattle.cfs_medium.proofs.Worlds.{at_other, at_place}
 use Rattle.cfs_tracker.specs.declared.cell.Cell.{Cell}
 use Rattle.cfs_tracker.specs.declared.cell.Cell.TheVariants as kinds
 use Rattle.cfs_tracker.specs.Cells.{cell_at, held_in, moving, with_cell}
-use Rattle.cfs_tracker.specs.Follows.{CellStands, Follows, flag_if}
+use Rattle.cfs_tracker.specs.Follows.{CellStands, Follows}
 use Rattle.cfs_tracker.specs.View.{TrackerView}
 use Rattle.cfs_tracker.proofs.Celling.{cell-beside, cell-here, follows-cell, is_lent_cell, not-lent-cell}
 use Rattle.cfs_inode.specs.Stands.{IsAtRest, IsHeld, JobStands, Stands, Together}
-use Rattle.cfs_inode.specs.View.{Held, Seens, StateView}
+use Rattle.cfs_inode.specs.View.{StateView}
 use Rattle.cfs_inode.specs.Trims.{with_block_cell}
 use Rattle.cfs_inode.proofs.Replacing.{all-go}
 

@@ -1,5 +1,5 @@
 -- A job comes back, and what the state knows of its place.
-use Rattle.std.proofs.Common.{◌≡◌, ◌≢◌, ◌∙◌, ◌<◌, ap, inl, inr, length, length-set, set, suc, zero, List, [], ◌∷◌, Option, None, Some, refl, subst, sym, ℕ, arith}
+use Rattle.std.proofs.Common.{◌≡◌, ◌∙◌, ◌<◌, ap, inl, inr, length, length-set, set, suc, zero, List, [], ◌∷◌, Option, None, Some, refl, subst, sym, ℕ, arith}
 use Rattle.cfs_file.specs.declared.sizes.TheConstants.{FILE_BLOCKS}
 use Rattle.cfs_pmem.specs.Images.{Seen, WordStep}
 use Rattle.cfs_block.specs.BlockImages.{BlockStep}

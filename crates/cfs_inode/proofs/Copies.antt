@@ -1,5 +1,5 @@
 -- A block at home is taken out, read and put back.
-use Rattle.std.proofs.Common.{◌≡◌, ◌∙◌, ◌+◌, ◌-◌, ◌*◌, ◌/◌, ◌%◌, ◌<◌, ◌≤◌, ◌++◌, ap, arith, drop, false, length-append, if◌then◌else◌, inl, inr, max, nat_lt, rules, get_or, length, List, map, min, None, Ok, Err, OnOk, Option, Result, Some, refl, set, subst, sym, take, true, ℕ, zero, suc, [], ◌∷◌}
+use Rattle.std.proofs.Common.{◌≡◌, ◌∙◌, ◌+◌, ◌-◌, ◌*◌, ◌/◌, ◌%◌, ◌<◌, ◌≤◌, ◌++◌, ap, arith, drop, false, length-append, if◌then◌else◌, inl, inr, max, nat_lt, rules, get_or, length, List, map, min, None, Ok, Err, OnOk, Result, Some, refl, set, subst, sym, take, true, ℕ, zero, suc, [], ◌∷◌}
 use Rattle.std.proofs.lemmas.Bool.{cases_Bool, cases_lt}
 use Rattle.std.proofs.lemmas.Bool.Decides.{nat_tests}
 use borrow.Rule.Slice.PartMut.{put_mid}
@@ -14,12 +14,12 @@ use Rattle.cfs_slot.specs.declared.live.Live.{Live}
 use Rattle.cfs_tracker.specs.declared.cell.Cell.{Cell}
 use Rattle.cfs_tracker.specs.declared.cell.Cell.TheVariants as kinds
 use Rattle.cfs_tracker.specs.declared.tracker.Tracker.{Tracker}
-use Rattle.cfs_tracker.specs.Cells.{cell_at, held_in, moving, with_cell}
+use Rattle.cfs_tracker.specs.Cells.{cell_at, held_in, with_cell}
 use Rattle.cfs_tracker.specs.Dispatch.{is_home}
 use Rattle.cfs_tracker.specs.View.{TrackerView, view_of}
 use Rattle.cfs_inode.specs.declared.state.State.{State}
 use Rattle.cfs_inode.specs.Serves.{CellsSeen, byte_in, end_block, home_byte, home_device, stored_byte, stored_from}
-use Rattle.cfs_inode.specs.View.{StateView, held_of, seens_of, state_view, told_cell}
+use Rattle.cfs_inode.specs.View.{StateView, state_view, told_cell}
 use Rattle.cfs_inode.proofs.Serving.{AreFull}
 use Rattle.cfs_inode.proofs.States.{state-told}
 use Rattle.cfs_inode.proofs.Works.{cell-told}

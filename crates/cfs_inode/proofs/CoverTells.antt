@@ -1,5 +1,5 @@
 -- What is to be marked next, told of a tracker as something else.
-use Rattle.std.proofs.Common.{◌≡◌, ◌∙◌, ap, cond, inl, inr, List, [], ◌∷◌, map, Option, None, Some, refl, sym, ℕ, Bool}
+use Rattle.std.proofs.Common.{◌≡◌, ◌∙◌, ap, inl, inr, List, [], ◌∷◌, map, Option, None, Some, refl, sym, ℕ}
 use Rattle.std.specs.List.{find}
 use Rattle.std.proofs.lemmas.Bool.{cases_Bool}
 use Rattle.cfs_pmem.specs.Images.{Seen, WordStep}

@@ -7,10 +7,8 @@ use Rattle.std.proofs.lemmas.Bool.Decides.{nat_tests}
 use Rattle.std.proofs.lemmas.List.{length-append, map-append}
 use Rattle.std.proofs.lemmas.List.Elements.{filter-append}
 use Rattle.cfs_core.specs.declared.event.Event.{Event}
-use Rattle.cfs_core.specs.declared.inode_core.Core.{Core}
 use Rattle.cfs_core.proofs.Legal.{both}
 use Rattle.cfs_pmem.specs.declared.trace.Asked.{Asked}
-use Rattle.cfs_medium.specs.World.{World}
 use Rattle.cfs_tracker.specs.declared.doing.Doing.{Doing}
 use Rattle.cfs_tracker.specs.declared.pending.Pending.{Pending}
 use Rattle.cfs_tracker.specs.declared.reading.Reading.{Reading}

@@ -1,5 +1,5 @@
 -- A job ends.
-use Rattle.std.proofs.Common.{◌≡◌, ◌∙◌, ◌+◌, ◌-◌, ◌<◌, ◌≤◌, ap, arith, inl, length, List, [], ◌∷◌, Option, None, Some, Ok, Err, refl, subst, sym, true, false, ℕ, Bool}
+use Rattle.std.proofs.Common.{◌≡◌, ◌∙◌, ◌+◌, ◌<◌, ◌≤◌, ap, arith, inl, length, List, [], ◌∷◌, None, Some, Ok, Err, refl, subst, sym, true, false, ℕ, Bool}
 use Rattle.cfs_core.specs.declared.event.End.{End}
 use Rattle.cfs_core.specs.declared.event.End.TheVariants as ends
 use Rattle.cfs_core.specs.declared.event.Event.TheVariants as events
@@ -15,10 +15,10 @@ use Rattle.cfs_pmem.specs.WordOps.{SetsWord}
 use Rattle.cfs_pmem.proofs.AllMomentLemmas.{all_after, all_begun, all_weaker}
 use Rattle.cfs_job.specs.Steps.{steps_left}
 use Rattle.cfs_job.specs.Views.{JobView}
-use Rattle.cfs_medium.specs.Shows.{Recovers, Shows}
+use Rattle.cfs_medium.specs.Shows.{Recovers}
 use Rattle.cfs_medium.specs.SizeEvents.{back}
 use Rattle.cfs_medium.specs.SlotEvents.{Answer, Leads, sized_end}
-use Rattle.cfs_medium.specs.World.{MayRemain, Remains, World}
+use Rattle.cfs_medium.specs.World.{Remains, World}
 use Rattle.cfs_medium.specs.WorldCalls.{WorldMoments, with_size, with_slots}
 use Rattle.cfs_medium.proofs.FinishEvents.{retires-show}
 use Rattle.cfs_medium.proofs.LiveLeft.{shown-recovers}
@@ -27,18 +27,18 @@ use Rattle.cfs_medium.proofs.SizeEvents.{sizes-show}
 use Rattle.cfs_medium.proofs.Worlds.{at_other, at_place}
 use Rattle.cfs_tracker.specs.declared.doing.Doing.TheVariants as doings
 use Rattle.cfs_tracker.specs.declared.pending.Pending.{Pending}
-use Rattle.cfs_tracker.specs.Finish.{applied_at, applied_entry, as_far, is_last, more_entry, number_of, size_after}
+use Rattle.cfs_tracker.specs.Finish.{applied_at, applied_entry, as_far, more_entry, number_of, size_after}
 use Rattle.cfs_tracker.specs.Follows.{gate_for}
-use Rattle.cfs_tracker.specs.View.{doing, entry_at}
+use Rattle.cfs_tracker.specs.View.{doing}
 use Rattle.cfs_tracker.proofs.Entries.{at-with, at-without, here-without}
 use Rattle.cfs_tracker.proofs.Finishing.{follows-applied, follows-back, follows-more, follows-retired, follows-unsure, may-size}
 use Rattle.cfs_inode.specs.declared.size_answer.SizeAnswer.TheVariants as went
 use Rattle.cfs_inode.specs.Backs.{EndMakes, HasOut, held_back, tile_back, with_put_back}
 use Rattle.cfs_inode.specs.Finishing.{Closed, FailsAt, Failing, IsAllDone, SizesFor, closing, end_at, keeping, with_applied, with_more, with_retired, with_unsure, writing}
 use Rattle.cfs_inode.specs.Makes.{AnyBetween}
-use Rattle.cfs_inode.specs.Stands.{JobStands, Stands, Together}
+use Rattle.cfs_inode.specs.Stands.{JobStands, Stands}
 use Rattle.cfs_inode.specs.View.{Held, Seens, StateView}
-use Rattle.cfs_inode.proofs.Comings.{Returns, returned}
+use Rattle.cfs_inode.proofs.Comings.{returned}
 use Rattle.cfs_inode.proofs.Goods.{good}
 use Rattle.cfs_inode.proofs.PutBacks.{IsComing, back-shows, coming, waits-again}
 use Rattle.cfs_inode.proofs.Sizings.{IsSized, is-sized, runs-through, unkept-shows, unwritten-shows, wanted-is}

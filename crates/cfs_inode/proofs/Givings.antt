@@ -1,7 +1,7 @@
 -- What is known of the job that a state gives out.
-use Rattle.std.proofs.Common.{◌≡◌, ◌≢◌, ◌∙◌, ◌&&◌, ap, inl, inr, length, List, [], ◌∷◌, map, nat_lt, Option, None, Some, refl, subst, sym, true, false, ℕ, Bool}
+use Rattle.std.proofs.Common.{◌≡◌, ◌∙◌, ◌&&◌, ap, inl, inr, length, List, map, nat_lt, Option, None, Some, refl, subst, sym, true, false, ℕ}
 use Rattle.std.specs.Prelude.{is_some}
-use Rattle.std.specs.List.{list_all, range_with_len}
+use Rattle.std.specs.List.{range_with_len}
 use Rattle.std.proofs.lemmas.Bool.{cases_Bool}
 use Rattle.cfs_file.specs.declared.sizes.TheConstants.{FILE_BLOCKS}
 use Rattle.cfs_file.specs.declared.span.Span.{Span}
@@ -29,12 +29,12 @@ use Rattle.cfs_tracker.specs.Cells.{cell_at}
 use Rattle.cfs_tracker.specs.declared.step.Step.TheVariants.{Takes}
 use Rattle.cfs_tracker.specs.Dispatch.{dispatched, first_cell, is_home, is_wanted_cell, next_cell, second_cell, step_at, tile_at, tile_in, waiting_in, waiting_slots}
 use Rattle.cfs_tracker.specs.Finish.{span_in}
-use Rattle.cfs_tracker.specs.View.{TrackerView, entry_at, view_of}
+use Rattle.cfs_tracker.specs.View.{entry_at, view_of}
 use Rattle.cfs_tracker.proofs.Dispatching.{AreBlocks, IsTaking, ready-blocks, taking}
 use Rattle.cfs_tracker.proofs.Entries.{found-test}
 use Rattle.cfs_inode.specs.declared.state.State.{State}
 use Rattle.cfs_inode.specs.Dispatching.{IsReadyAt, lent_of}
-use Rattle.cfs_inode.specs.Jobs.{AreTile, IsGiven, IsTile, with_dispatched}
+use Rattle.cfs_inode.specs.Jobs.{AreTile, IsGiven, with_dispatched}
 use Rattle.cfs_inode.specs.View.{Held, StateView, held_of, seens_of, state_view, told_cell, told_option}
 use Rattle.cfs_inode.proofs.EndTells.{span-told}
 use Rattle.cfs_inode.proofs.JobTells.{all-are-still, cell-told, slots-told, step-told, told-dispatched}

@@ -1,5 +1,5 @@
 -- What calls about jobs ask for is known where a state stands.
-use Rattle.std.proofs.Common.{◌≡◌, ◌∙◌, ◌+◌, ◌-◌, ◌<◌, ◌≤◌, ◌==◌, ap, arith, cond, inl, inr, length, List, [], ◌∷◌, map, not, Option, None, Some, refl, subst, sym, true, false, ℕ, Bool}
+use Rattle.std.proofs.Common.{◌≡◌, ◌∙◌, ◌+◌, ◌-◌, ◌==◌, ap, arith, length, List, [], ◌∷◌, map, Option, None, Some, refl, subst, sym, true, false, ℕ, Bool}
 use Rattle.std.specs.Prelude.{option_map, slice_get}
 use Rattle.std.proofs.lemmas.Bool.Decides.{nat_tests}
 use Rattle.cfs_file.specs.declared.entry.Entry.{Entry}
@@ -10,7 +10,7 @@ use Rattle.cfs_file.specs.declared.span.Span.TheVariants.{Range}
 use Rattle.cfs_file.specs.Span.{span}
 use Rattle.cfs_core.specs.declared.doubt.Doubt.{Doubt}
 use Rattle.cfs_core.specs.declared.flag.Flag.{Flag}
-use Rattle.cfs_core.specs.declared.flag.Flag.TheVariants.{Off, On}
+use Rattle.cfs_core.specs.declared.flag.Flag.TheVariants.{On}
 use Rattle.cfs_core.specs.declared.inode_core.Core.{Core}
 use Rattle.cfs_core.specs.declared.state.Job.{Job}
 use Rattle.cfs_core.specs.declared.state.State.{State}
@@ -22,23 +22,22 @@ use Rattle.cfs_core.specs.Words.{can_be, is_live, is_waiting, track}
 use Rattle.cfs_core.proofs.Kept.{IsLogged, at, file_at, is_changing}
 use Rattle.cfs_core.proofs.Order.{track_is}
 use Rattle.cfs_core.proofs.Registers.{between-some, some_bytes}
-use Rattle.cfs_pmem.specs.Images.{Seen, WordStep, IsImage, words_of}
+use Rattle.cfs_pmem.specs.Images.{Seen, IsImage, words_of}
 use Rattle.cfs_pmem.specs.Objects.{IsEachImage}
 use Rattle.cfs_pmem.proofs.ImageLemmas.{now_is_image}
 use Rattle.cfs_job.specs.Stands.{IsOpen, IsSpanOf}
 use Rattle.cfs_job.specs.Steps.{core_job, lease_in}
-use Rattle.cfs_job.specs.Views.{JobView, TileView, request_seen}
-use Rattle.cfs_medium.specs.Shows.{Holding, Shows, SlotFits, entry_of, holding, is_gated, logged_at}
+use Rattle.cfs_job.specs.Views.{TileView, request_seen}
+use Rattle.cfs_medium.specs.Shows.{Holding, SlotFits, entry_of, is_gated, logged_at}
 use Rattle.cfs_medium.specs.World.{World, head_words}
 use Rattle.cfs_medium.proofs.SlotEvents.{holding-logged}
-use Rattle.cfs_slot.specs.Words.{gate_of}
 use Rattle.cfs_tracker.specs.declared.doing.Doing.{Doing}
 use Rattle.cfs_tracker.specs.declared.doing.Doing.TheVariants as doings
 use Rattle.cfs_tracker.specs.declared.pending.Pending.{Pending}
 use Rattle.cfs_tracker.specs.declared.reading.Reading.{Reading}
 use Rattle.cfs_tracker.specs.Dispatch.{waiting_in}
 use Rattle.cfs_tracker.specs.Finish.{blocks_in, blocks_out, number_of}
-use Rattle.cfs_tracker.specs.Follows.{IsDoing, StandsAt, block_of, gate_for, is_dead}
+use Rattle.cfs_tracker.specs.Follows.{IsDoing, StandsAt, block_of, is_dead}
 use Rattle.cfs_tracker.specs.declared.cell.Cell.{Cell}
 use Rattle.cfs_tracker.specs.View.{doing, entry_at, read_at, with_entry}
 use Rattle.cfs_tracker.proofs.Entries.{here-with}
@@ -47,10 +46,9 @@ use Rattle.cfs_tracker.proofs.Behind.{doubt-behind}
 use Rattle.cfs_tracker.proofs.Putting.{track-of}
 use Rattle.cfs_tracker.proofs.Tracks.{in-log}
 use Rattle.cfs_inode.specs.Backs.{HasOut, tile_back}
-use Rattle.cfs_inode.specs.Dispatching.{IsOpenedFor, IsReadyAt}
 use Rattle.cfs_inode.specs.Jobs.{AreTile}
 use Rattle.cfs_inode.specs.Knows.{JobsAreOut, StandingAreReady, TakenAreOut}
-use Rattle.cfs_inode.specs.Stands.{JobStands, Stands, Together}
+use Rattle.cfs_inode.specs.Stands.{Stands}
 use Rattle.cfs_inode.specs.View.{Held, Seens, StateView}
 use Rattle.cfs_inode.proofs.Dispatches.{waiting-slots, waits-state}
 use Rattle.cfs_core_laws.proofs.Whole.{whole}

@@ -1,18 +1,16 @@
 -- All blocks that a request needs are mapped.
-use Rattle.std.proofs.Common.{◌≡◌, ◌∙◌, ◌≤◌, ◌<◌, ◌+◌, ◌-◌, ◌/◌, ◌&&◌, ◌++◌, ap, arith, cond, filter, get_or, inl, inr, List, [], ◌∷◌, length, map, not, Option, None, Some, refl, set, subst, sym, true, false, zero, suc, ℕ, Bool, length-set}
+use Rattle.std.proofs.Common.{◌≡◌, ◌∙◌, ◌≤◌, ◌<◌, ◌+◌, ◌-◌, ◌/◌, ◌&&◌, ◌++◌, ap, arith, cond, filter, inl, inr, List, [], ◌∷◌, length, not, Option, None, Some, refl, set, subst, sym, true, false, zero, suc, ℕ, Bool, length-set}
 use Rattle.std.specs.Prelude.{nat_lt}
 use Rattle.std.specs.List.{find, list_all, range_with_len}
-use Rattle.std.proofs.lemmas.Bool.{cases_Bool, cases_lt}
+use Rattle.std.proofs.lemmas.Bool.{cases_Bool}
 use Rattle.std.proofs.lemmas.Bool.Decides.{nat_tests}
-use Rattle.std.proofs.lemmas.Grind.{get_or-set_at}
 use Rattle.std.proofs.lemmas.List.{length-append, map-append}
 use Rattle.cfs_file.specs.declared.request.Request.{Request}
 use Rattle.cfs_file.specs.declared.request.Request.TheVariants as requests
 use Rattle.cfs_file.specs.declared.sizes.TheConstants.{BLOCK_LEN, FILE_BLOCKS, LONGEST_FILE}
 use Rattle.cfs_file.specs.declared.span.Span.{Span}
-use Rattle.cfs_file.specs.declared.span.Span.TheVariants.{Nothing, Range, From}
+use Rattle.cfs_file.specs.declared.span.Span.TheVariants.{Nothing, Range}
 use Rattle.cfs_file.specs.Span.{EndFits, between, span}
-use Rattle.cfs_core.specs.declared.event.Event.{Event}
 use Rattle.cfs_core.specs.declared.event.Event.TheVariants as events
 use Rattle.cfs_core.specs.Words.{blocks_needed, end_needed, first_needed}
 use Rattle.cfs_core.specs.May.{is_change}
@@ -23,7 +21,6 @@ use Rattle.cfs_pmem.specs.declared.trace.Asked.{Asked}
 use Rattle.cfs_pmem.specs.Images.{Seen}
 use Rattle.cfs_block.specs.BlockImages.{BlockStep}
 use Rattle.cfs_tracker.specs.declared.cell.Cell.{Cell}
-use Rattle.cfs_tracker.specs.declared.cell.Cell.TheVariants as kinds
 use Rattle.cfs_tracker.specs.Admit.{bare_needed, first_unmapped, is_mapped, long_after}
 use Rattle.cfs_tracker.specs.Cells.{cell_at, held_in, is_bare, tagged_cell}
 use Rattle.cfs_tracker.proofs.Celling.{cell-beside, cell-here}

@@ -5,7 +5,7 @@ use Rattle.cfs_core.specs.declared.event.Event.TheVariants as events
 use Rattle.cfs_core.specs.declared.flag.Flag.TheVariants.{Off}
 use Rattle.cfs_core.specs.declared.inode_core.Core.{Core}
 use Rattle.cfs_core.specs.declared.state.State.TheVariants as states
-use Rattle.cfs_core.specs.Words.{is_out, is_waiting, track}
+use Rattle.cfs_core.specs.Words.{is_waiting, track}
 use Rattle.cfs_core.specs.May.{may}
 use Rattle.cfs_core.specs.After.{after, marked as marked_track}
 use Rattle.cfs_core.proofs.Marks.{track_beside}

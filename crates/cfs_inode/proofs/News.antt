@@ -1,5 +1,5 @@
 -- A state of a file of which nothing is pending stands for the cores of that file.
-use Rattle.std.proofs.Common.{◌≡◌, ◌∙◌, ◌+◌, ◌-◌, ◌*◌, ◌<◌, ◌≤◌, ◌==◌, ◌++◌, ap, arith, inl, inr, List, [], ◌∷◌, map, length, get_or, set, replicate, Option, None, Some, refl, subst, sym, true, false, Bool, ℕ, zero, suc, if◌then◌else◌}
+use Rattle.std.proofs.Common.{◌≡◌, ◌∙◌, ◌+◌, ◌-◌, ◌*◌, ◌<◌, ◌==◌, ◌++◌, ap, arith, inl, inr, List, [], ◌∷◌, map, length, get_or, set, replicate, Option, None, Some, refl, subst, sym, true, false, ℕ, zero, suc}
 use Rattle.std.specs.Prelude.{is_some}
 use Rattle.std.proofs.lemmas.Bool.{cases_Bool}
 use Rattle.std.proofs.lemmas.Bool.Decides.{nat_tests}
@@ -15,28 +15,27 @@ use Rattle.cfs_core.specs.declared.flag.Flag.TheVariants.{Off, On, Unsure}
 use Rattle.cfs_core.specs.declared.inode_core.Core.{Core}
 use Rattle.cfs_core.specs.declared.stretch.Stretch.{Stretch}
 use Rattle.cfs_core.specs.declared.track.Track.{Track}
-use Rattle.cfs_core.specs.Fresh.{IsEmpty, IsFresh}
+use Rattle.cfs_core.specs.Fresh.{IsEmpty}
 use Rattle.cfs_core.specs.Medium.{is_loose, is_size}
 use Rattle.cfs_core.specs.Words.{blank, flag_of, is_off, track}
 use Rattle.cfs_core.proofs.Freshly.{fresh-empty}
 use Rattle.cfs_core.proofs.Order.{same_or_not, track_is}
-use Rattle.cfs_medium.specs.Shows.{BlockShown, HasShape, Holding, Shows, SlotFits, SlotsShown, holding, is_for}
+use Rattle.cfs_medium.specs.Shows.{BlockShown, Holding, Shows, SlotFits, SlotsShown, holding, is_for}
 use Rattle.cfs_medium.specs.Store.{tag_of}
-use Rattle.cfs_medium.specs.World.{World}
 use Rattle.cfs_tracker.specs.declared.cell.Cell.{Cell}
 use Rattle.cfs_slot.specs.declared.doubt.Doubt.{Doubt}
 use Rattle.cfs_slot.specs.declared.live.Live.{Live}
 use Rattle.cfs_tracker.specs.declared.cell.Cell.TheVariants as kinds
 use Rattle.cfs_tracker.specs.declared.tracker.Tracker.{Tracker}
 use Rattle.cfs_tracker.specs.Cells.{cell_at, held_in}
-use Rattle.cfs_tracker.specs.Follows.{CellStands, Follows}
-use Rattle.cfs_tracker.specs.New.{IsLoaded, stored_view}
+use Rattle.cfs_tracker.specs.Follows.{CellStands}
+use Rattle.cfs_tracker.specs.New.{stored_view}
 use Rattle.cfs_tracker.specs.View.{TrackerView, view_of}
 use Rattle.cfs_tracker.proofs.Loading.{follows-fresh}
 use Rattle.cfs_inode.specs.declared.mapped.Mapped.{Mapped}
-use Rattle.cfs_inode.specs.New.{AreMapped, HasFile, IsMapped, IsStored, MappedSeen, StandsFor, brought, seen_for, stored_state, stored_world, told_mapped, with_homes}
-use Rattle.cfs_inode.specs.Stands.{IsAtRest, Stands, Together}
-use Rattle.cfs_inode.specs.View.{Held, Seens, StateView, held_of, seens_of, state_view, told, told_cell}
+use Rattle.cfs_inode.specs.New.{AreMapped, HasFile, IsStored, MappedSeen, StandsFor, brought, seen_for, stored_state, stored_world, told_mapped, with_homes}
+use Rattle.cfs_inode.specs.Stands.{IsAtRest}
+use Rattle.cfs_inode.specs.View.{Held, Seens, held_of, seens_of, state_view, told, told_cell}
 
 -- ---- blocks that are brought in
 

@@ -1,30 +1,26 @@
 -- The offset of a staged append is set.
-use Rattle.std.proofs.Common.{◌≡◌, ◌∙◌, ◌≤◌, ◌+◌, ap, arith, inl, inr, List, [], ◌∷◌, length, None, Some, refl, set, sym, true, false, zero, suc, ℕ, Bool}
-use Rattle.std.proofs.Math.ListN.{get_or}
+use Rattle.std.proofs.Common.{◌≡◌, ◌∙◌, ◌≤◌, ◌+◌, ap, arith, inl, inr, List, [], ◌∷◌, length, None, Some, refl, set, sym, true, false, suc, ℕ, Bool}
 use Rattle.cfs_core.specs.declared.flag.Flag.{Flag}
 use Rattle.cfs_core.specs.declared.flag.Flag.TheVariants.{Off}
-use Rattle.cfs_core.specs.declared.inode_core.Core.{Core}
 use Rattle.cfs_core.specs.declared.track.Track.{Track}
-use Rattle.cfs_core.specs.Words.{can_be, is_out, track}
+use Rattle.cfs_core.specs.Words.{can_be, is_out}
 use Rattle.cfs_pmem.specs.declared.trace.Asked.{Asked}
 use Rattle.cfs_pmem.specs.Images.{AllImages, IsImage, IsSetFrom, Seen, WordStep}
 use Rattle.cfs_pmem.specs.Objects.{IsEachImage}
 use Rattle.cfs_pmem.specs.WordOps.{SetsWord}
 use Rattle.cfs_pmem.proofs.AllMomentLemmas.{all_after}
-use Rattle.cfs_pmem.proofs.MomentLemmas.{at_end}
 use Rattle.cfs_slot.specs.Words.{IsClosed, gate_of}
-use Rattle.cfs_medium.specs.Shows.{Recovers, Shows, SlotFits, holding, is_gated}
+use Rattle.cfs_medium.specs.Shows.{Recovers, Shows, SlotFits, holding}
 use Rattle.cfs_medium.specs.SlotEvents.{Answer}
-use Rattle.cfs_medium.specs.World.{World, head_words}
+use Rattle.cfs_medium.specs.World.{World}
 use Rattle.cfs_medium.specs.WorldCalls.{AreShut, WorldMoments, with_slots}
 use Rattle.cfs_medium.proofs.SlotEvents.{closed-fits}
 use Rattle.cfs_medium.proofs.SlotSteps.{differs-none, heads-set}
 use Rattle.cfs_medium.proofs.Worlds.{at_place}
-use Rattle.cfs_tracker.specs.declared.in_doubt.InDoubt.{InDoubt}
 use Rattle.cfs_tracker.proofs.Pushing.{none-past}
 use Rattle.cfs_inode.specs.Makes.{CallMakes}
 use Rattle.cfs_inode.specs.Opening.{next_place}
-use Rattle.cfs_inode.specs.View.{Held, Seens, StateView}
+use Rattle.cfs_inode.specs.View.{Seens, StateView}
 use Rattle.cfs_inode.proofs.Goods.{good}
 use Rattle.cfs_inode.proofs.Openings.{next-free, staged-come}
 use Rattle.cfs_inode.proofs.Replacing.{replaced}

@@ -1,5 +1,5 @@
 -- The offset of a staged append.
-use Rattle.std.proofs.Common.{◌≡◌, ◌∙◌, ◌≤◌, ◌<◌, ◌+◌, ◌&&◌, ap, arith, List, [], ◌∷◌, length, Ok, Err, refl, sym, true, false, ℕ, Bool, get_or-set_other}
+use Rattle.std.proofs.Common.{◌≡◌, ◌∙◌, ◌≤◌, ◌+◌, ap, arith, List, [], ◌∷◌, length, Ok, Err, refl, sym, true, ℕ, Bool, get_or-set_other}
 use Rattle.std.specs.Prelude.{nat_le, nat_lt}
 use Rattle.std.proofs.lemmas.Bool.Decides.{nat_tests}
 use Rattle.cfs_file.specs.declared.request.Request.{Request}

@@ -1,22 +1,13 @@
 -- A job is put back.
-use Rattle.std.proofs.Common.{◌≡◌, ◌∙◌, ◌+◌, ◌-◌, ◌<◌, ◌≤◌, ap, arith, inl, length, List, [], ◌∷◌, Option, None, Some, refl, subst, sym, true, false, ℕ, Bool}
+use Rattle.std.proofs.Common.{◌≡◌, ◌∙◌, ◌+◌, ◌-◌, ◌<◌, ◌≤◌, ap, arith, inl, length, List, [], ◌∷◌, Option, Some, refl, sym, true, false, ℕ}
 use Rattle.std.specs.Prelude.{option_map}
-use Rattle.cfs_core.specs.declared.doubt.Doubt.{Doubt as CoreDoubt}
-use Rattle.cfs_core.specs.declared.event.End.{End}
-use Rattle.cfs_core.specs.declared.event.End.TheVariants as ends
 use Rattle.cfs_core.specs.declared.event.Event.TheVariants as events
 use Rattle.cfs_core.specs.declared.event.SizeEnd.TheVariants as sizes
 use Rattle.cfs_core.specs.declared.inode_core.Core.{Core}
-use Rattle.cfs_core.specs.declared.track.Track.{Track}
 use Rattle.cfs_core.specs.After.{after, put_back as track_back}
-use Rattle.cfs_core.specs.May.{may}
 use Rattle.cfs_core.specs.Words.{is_out, track}
 use Rattle.cfs_core.proofs.Marks.{track_beside}
-use Rattle.cfs_pmem.specs.declared.trace.Asked.{Asked}
-use Rattle.cfs_pmem.specs.Images.{Seen, WordStep}
 use Rattle.cfs_pmem.proofs.AllMomentLemmas.{all_begun}
-use Rattle.cfs_block.specs.BlockImages.{BlockStep}
-use Rattle.cfs_job.specs.Steps.{core_job}
 use Rattle.cfs_job.specs.Views.{JobView}
 use Rattle.cfs_medium.specs.Shows.{Recovers, Shows}
 use Rattle.cfs_medium.specs.SlotEvents.{IsBesideDoubt}
@@ -27,9 +18,9 @@ use Rattle.cfs_tracker.specs.declared.doing.Doing.{Doing}
 use Rattle.cfs_tracker.specs.declared.doing.Doing.TheVariants as doings
 use Rattle.cfs_tracker.specs.declared.in_doubt.InDoubt.{InDoubt}
 use Rattle.cfs_tracker.specs.declared.pending.Pending.{Pending}
-use Rattle.cfs_tracker.specs.Finish.{applied_at, applied_in, as_far, number_of}
+use Rattle.cfs_tracker.specs.Finish.{applied_at, applied_in, as_far}
 use Rattle.cfs_tracker.specs.Follows.{IsTrack, gate_for, is_dead}
-use Rattle.cfs_tracker.specs.View.{TrackerView, doing, entry_at, with_entry}
+use Rattle.cfs_tracker.specs.View.{doing, entry_at, with_entry}
 use Rattle.cfs_tracker.proofs.Behind.{doubt-behind}
 use Rattle.cfs_tracker.proofs.Entries.{at-with, here-with}
 use Rattle.cfs_tracker.proofs.Finishing.{IsEnding, ending, follows-back}
@@ -37,9 +28,9 @@ use Rattle.cfs_tracker.proofs.Putting.{track-of}
 use Rattle.cfs_tracker.proofs.Tracks.{in-log}
 use Rattle.cfs_inode.specs.Backs.{HasOut, PutsBack, held_back, tile_back, with_put_back}
 use Rattle.cfs_inode.specs.Makes.{AnyBetween}
-use Rattle.cfs_inode.specs.Stands.{AreHeld, JobStands, Stands, Together, slots_in}
+use Rattle.cfs_inode.specs.Stands.{AreHeld, JobStands, Stands, slots_in}
 use Rattle.cfs_inode.specs.View.{Held, Seens, StateView}
-use Rattle.cfs_inode.proofs.Comings.{Returns, returned}
+use Rattle.cfs_inode.proofs.Comings.{returned}
 use Rattle.cfs_inode.proofs.Goods.{good}
 use Rattle.cfs_inode.proofs.Skips.{doubt-apart}
 

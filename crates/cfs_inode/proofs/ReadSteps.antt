@@ -1,16 +1,13 @@
 -- The reading steps of a read, block by block.
-use Rattle.std.proofs.Common.{◌≡◌, ◌∙◌, ◌+◌, ◌-◌, ◌<◌, ◌≤◌, ◌++◌, ap, append_assoc, append-nil, arith, drop, length, length-append, List, [], ◌∷◌, Ok, Err, Result, false, refl, subst, sym, ℕ, zero, suc, Bool}
+use Rattle.std.proofs.Common.{◌≡◌, ◌∙◌, ◌+◌, ◌-◌, ◌<◌, ◌≤◌, ◌++◌, ap, append_assoc, append-nil, arith, drop, length, length-append, List, [], ◌∷◌, Ok, Err, Result, false, subst, sym, ℕ, zero, suc}
 use Rattle.std.specs.Prelude.{is_ok}
 use Rattle.std.specs.List.{range_with_len}
 use Rattle.std.proofs.Math.Seq.{drop-append-add}
 use Rattle.std.proofs.lemmas.List.{drop-append-le, length-drop}
 use Rattle.cfs_pmem.specs.declared.trace.Asked.{Asked}
 use Rattle.cfs_pmem.specs.declared.trace.Asked.TheVariants.{Step}
-use Rattle.cfs_pmem.specs.Images.{Seen}
 use Rattle.cfs_pmem.specs.Operations.{all_allowed, last_refused}
 use Rattle.cfs_pmem.proofs.CallLemmas.{all_allowed-append}
-use Rattle.cfs_block.specs.BlockImages.{BlockStep}
-use Rattle.cfs_tracker.specs.declared.cell.Cell.{Cell}
 use Rattle.cfs_tracker.specs.Cells.{cell_at}
 use Rattle.cfs_inode.specs.Serves.{CellsSeen, Reads, ReadsStop, home_device, home_devices, read_ask}
 

@@ -1,5 +1,5 @@
 -- A read is answered with the stored bytes.
-use Rattle.std.proofs.Common.{◌≡◌, ◌∙◌, ◌+◌, ◌-◌, ◌*◌, ◌/◌, ◌%◌, ◌<◌, ◌≤◌, ◌==◌, ◌&&◌, ◌++◌, ap, append-nil, arith, inl, inr, List, [], ◌∷◌, map, length, get_or, Option, None, Some, refl, subst, sym, true, false, Bool, ℕ, zero, suc, if◌then◌else◌}
+use Rattle.std.proofs.Common.{◌≡◌, ◌∙◌, ◌+◌, ◌-◌, ◌*◌, ◌/◌, ◌%◌, ◌<◌, ◌≤◌, ◌==◌, ◌++◌, ap, append-nil, arith, inl, inr, List, [], ◌∷◌, length, get_or, Option, None, Some, refl, subst, sym, true, false, Bool, ℕ, zero, suc, if◌then◌else◌}
 use Rattle.std.specs.Prelude.{is_some, nat_lt}
 use Rattle.std.specs.List.{range_with_len}
 use Rattle.std.specs.Option.{option_or}
@@ -12,11 +12,11 @@ use Rattle.cfs_file.specs.declared.span.Span.{Span}
 use Rattle.cfs_pmem.specs.declared.trace.Asked.{Asked}
 use Rattle.cfs_pmem.specs.Asks.{AsksSome}
 use Rattle.cfs_pmem.specs.Images.{Seen, devices_of}
-use Rattle.cfs_block.specs.BlockImages.{BlockStep, Content, IsBlockImage, content_of}
+use Rattle.cfs_block.specs.BlockImages.{BlockStep, content_of}
 use Rattle.cfs_block.proofs.BlockLemmas.{now_is_image}
 use Rattle.cfs_core.specs.declared.event.Event.TheVariants as events
 use Rattle.cfs_core.specs.declared.flag.Flag.{Flag}
-use Rattle.cfs_core.specs.declared.flag.Flag.TheVariants.{Off, On, Unsure}
+use Rattle.cfs_core.specs.declared.flag.Flag.TheVariants.{Off, On}
 use Rattle.cfs_core.specs.declared.inode_core.Core.{Core}
 use Rattle.cfs_core.specs.Medium.{reads}
 use Rattle.cfs_core.specs.May.{are_stored, read_alike}
@@ -24,7 +24,7 @@ use Rattle.cfs_core.specs.declared.state.State.{State}
 use Rattle.cfs_core.specs.declared.state.State.TheVariants as states
 use Rattle.cfs_core.specs.Words.{can_be, end_of, is_on, is_out, is_unserved, positions, start_of, track}
 use Rattle.cfs_core.proofs.Images.{all_in_range}
-use Rattle.cfs_core.proofs.Legal.{and_all, both}
+use Rattle.cfs_core.proofs.Legal.{and_all}
 use Rattle.cfs_core.proofs.Marks.{track_beside}
 use Rattle.cfs_core.proofs.Order.{same_or_not}
 use Rattle.cfs_medium.specs.Shows.{BlockShown, ReadsAs, Recovers, is_for}
@@ -45,7 +45,7 @@ use Rattle.cfs_tracker.proofs.Readings.{follows-served, read-is}
 use Rattle.cfs_tracker.proofs.Tracks.{in-log}
 use Rattle.cfs_inode.specs.Makes.{CallMakes}
 use Rattle.cfs_inode.specs.Reads.{QuietlyMakes, without_read}
-use Rattle.cfs_inode.specs.Serves.{CellsSeen, blocks_between, byte_in, count_of, end_block, first_lender, home_byte, lender_in, stored_byte, stored_bytes}
+use Rattle.cfs_inode.specs.Serves.{CellsSeen, byte_in, count_of, end_block, first_lender, home_byte, lender_in, stored_byte, stored_bytes}
 use Rattle.cfs_inode.specs.Stands.{IsAtRest, Stands, Together}
 use Rattle.cfs_inode.specs.View.{StateView}
 use Rattle.cfs_inode.proofs.Composing.{makes-then}

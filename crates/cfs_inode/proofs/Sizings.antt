@@ -1,14 +1,12 @@
 -- The size word is set for a change whose job is through.
-use Rattle.std.proofs.Common.{◌≡◌, ◌∙◌, ◌+◌, ◌&&◌, ◌||◌, ◌<◌, ◌≤◌, ◌==◌, ap, arith, get_or, inl, inr, length, List, [], ◌∷◌, ◌++◌, nat_lt, not, Option, None, Some, Ok, Err, refl, subst, sym, true, false, ℕ, Bool}
+use Rattle.std.proofs.Common.{◌≡◌, ◌∙◌, ◌+◌, ◌&&◌, ◌||◌, ◌<◌, ◌≤◌, ◌==◌, ap, arith, get_or, inl, inr, length, List, [], ◌∷◌, ◌++◌, not, Option, None, Some, Ok, refl, subst, sym, true, false, ℕ, Bool}
 use Rattle.std.proofs.lemmas.Bool.Decides.{nat_tests}
 use Rattle.cfs_core.specs.declared.event.End.TheVariants as ends
 use Rattle.cfs_core.specs.declared.event.Event.TheVariants as events
 use Rattle.cfs_core.specs.declared.event.SizeEnd.TheVariants as sizes
 use Rattle.cfs_core.specs.declared.inode_core.Core.{Core}
 use Rattle.cfs_core.specs.declared.state.State.TheVariants as states
-use Rattle.cfs_core.specs.declared.track.Track.{Track}
 use Rattle.cfs_core.specs.After.{after, put_back as track_back, with_track}
-use Rattle.cfs_core.specs.Good.{IsGood}
 use Rattle.cfs_core.specs.May.{ends_well, is_in_phase, is_size_set, keeps_gate, may, may_finish, stands_at}
 use Rattle.cfs_core.specs.Medium.{is_size}
 use Rattle.cfs_core.specs.Words.{is_done, is_out, is_through, sized, track}
@@ -16,16 +14,15 @@ use Rattle.cfs_core.proofs.Legal.{both}
 use Rattle.cfs_pmem.specs.declared.trace.Asked.{Asked}
 use Rattle.cfs_pmem.specs.Images.{Seen, WordStep, IsImage, IsSetFrom, failed, words_of, wrote}
 use Rattle.cfs_pmem.specs.WordOps.{SetsWord}
-use Rattle.cfs_pmem.proofs.AllMomentLemmas.{all_begun, all_weaker}
+use Rattle.cfs_pmem.proofs.AllMomentLemmas.{all_begun}
 use Rattle.cfs_pmem.proofs.ImageLemmas.{all_failed}
 use Rattle.cfs_pmem.proofs.MomentLemmas.{at_end}
 use Rattle.cfs_job.specs.Steps.{core_job, is_unflushed, is_unwritten, lease_in, one_if, steps_left}
 use Rattle.cfs_job.specs.Views.{JobView, TileView}
-use Rattle.cfs_medium.specs.Differs.{DiffersInSize}
-use Rattle.cfs_medium.specs.Shows.{HasShape, Recovers, Shows}
+use Rattle.cfs_medium.specs.Shows.{Recovers, Shows}
 use Rattle.cfs_medium.specs.SizeEvents.{back}
 use Rattle.cfs_medium.specs.SlotEvents.{Answer, sized_end}
-use Rattle.cfs_medium.specs.World.{Remains, World}
+use Rattle.cfs_medium.specs.World.{World}
 use Rattle.cfs_medium.specs.WorldCalls.{WorldMoments, with_size}
 use Rattle.cfs_medium.proofs.LiveLeft.{shown-recovers}
 use Rattle.cfs_medium.proofs.QuietEvents.{backs-show}
@@ -33,7 +30,7 @@ use Rattle.cfs_medium.proofs.SizeEvents.{first_set, new_is_a_size, sizes-show, s
 use Rattle.cfs_medium.proofs.SizeSteps.{size_shows}
 use Rattle.cfs_medium.proofs.SlotEvents.{holding-same}
 use Rattle.cfs_tracker.specs.declared.pending.Pending.{Pending}
-use Rattle.cfs_tracker.specs.Finish.{applied_at, as_far, is_last, size_after, span_in}
+use Rattle.cfs_tracker.specs.Finish.{applied_at, is_last, size_after, span_in}
 use Rattle.cfs_tracker.specs.Follows.{gate_for}
 use Rattle.cfs_tracker.specs.View.{entry_at}
 use Rattle.cfs_tracker.proofs.Finishing.{follows-unsure, may-size}
@@ -44,7 +41,7 @@ use Rattle.cfs_inode.specs.Finishing.{SetsSize, SizesFor, is_right}
 use Rattle.cfs_inode.specs.Stands.{JobStands, Stands}
 use Rattle.cfs_inode.specs.View.{Held, StateView}
 use Rattle.cfs_inode.proofs.Goods.{good}
-use Rattle.cfs_inode.proofs.PutBacks.{IsComing, back-shows}
+use Rattle.cfs_inode.proofs.PutBacks.{IsComing}
 
 -- ---- a job without steps left is through
 

@@ -1,9 +1,9 @@
 -- Blocks are tagged.
-use Rattle.std.proofs.Common.{◌≡◌, ◌∙◌, ◌⊎◌, ◌≤◌, ◌<◌, ◌+◌, ◌*◌, ap, arith, cond, get_or, inl, inr, List, [], ◌∷◌, length, Option, None, Some, Ok, Err, refl, replicate, set, subst, sym, true, false, ℕ, Bool}
-use Rattle.cfs_file.specs.declared.sizes.TheConstants.{BLOCK_LEN, FILE_BLOCKS}
+use Rattle.std.proofs.Common.{◌≡◌, ◌∙◌, ◌⊎◌, ◌≤◌, ◌<◌, ◌+◌, ap, arith, get_or, inl, inr, List, [], ◌∷◌, length, None, Some, refl, set, subst, true, false, ℕ, Bool}
+use Rattle.cfs_file.specs.declared.sizes.TheConstants.{FILE_BLOCKS}
 use Rattle.cfs_core.specs.declared.event.Event.TheVariants as events
 use Rattle.cfs_core.specs.declared.flag.Flag.{Flag}
-use Rattle.cfs_core.specs.declared.flag.Flag.TheVariants.{Off, On, Unsure}
+use Rattle.cfs_core.specs.declared.flag.Flag.TheVariants.{Off}
 use Rattle.cfs_core.specs.declared.inode_core.Core.{Core}
 use Rattle.cfs_core.specs.Words.{can_be}
 use Rattle.cfs_core.specs.May.{may}
@@ -15,7 +15,6 @@ use Rattle.cfs_pmem.proofs.MomentLemmas.{at_end}
 use Rattle.cfs_block.specs.BlockImages.{AllBlockImages, BlockStep, Content, IsZero, content_of}
 use Rattle.cfs_block.specs.BlockOps.{SetsTag}
 use Rattle.cfs_block.proofs.BlockLemmas.{now_is_image}
-use Rattle.cfs_job.specs.Views.{JobView}
 use Rattle.cfs_medium.specs.BlockEvents.{BlockLeads, IsBlank}
 use Rattle.cfs_medium.specs.Shows.{Recovers, Shows, is_for}
 use Rattle.cfs_medium.specs.Store.{tag_of}
@@ -36,7 +35,7 @@ use Rattle.cfs_tracker.proofs.Celling.{cell-here, is_lent_cell}
 use Rattle.cfs_tracker.proofs.Tagging.{follows-tagged}
 use Rattle.cfs_inode.specs.Makes.{AnyBetween, CallMakes}
 use Rattle.cfs_inode.specs.Marking.{answer_for}
-use Rattle.cfs_inode.specs.Stands.{IsAtRest, Stands, Together}
+use Rattle.cfs_inode.specs.Stands.{IsAtRest, Stands}
 use Rattle.cfs_inode.specs.Trims.{block_at, with_block_cell}
 use Rattle.cfs_inode.specs.View.{Held, Seens, StateView}
 use Rattle.cfs_inode.proofs.Blocks.{block-put, follows-moving, retagged, set-set, with-none}

@@ -1,5 +1,5 @@
 -- The blocks of a tracker, told as something else.
-use Rattle.std.proofs.Common.{◌≡◌, ◌∙◌, ◌&&◌, ap, cond, inl, inr, List, [], ◌∷◌, length, map, not, Option, None, Some, refl, set, sym, true, false, ℕ, Bool}
+use Rattle.std.proofs.Common.{◌≡◌, ◌∙◌, ◌&&◌, ap, cond, List, [], ◌∷◌, length, map, Option, None, Some, refl, sym, true, ℕ, Bool}
 use Rattle.std.specs.List.{find, list_any, range_with_len}
 use Rattle.std.proofs.Math.ListN.{get_or-map}
 use Rattle.std.proofs.lemmas.List.{length-map, map-set}

@@ -1,5 +1,5 @@
 -- A block past the stored size is given up.
-use Rattle.std.proofs.Common.{◌≡◌, ◌∙◌, ◌*◌, ◌≤◌, ◌<◌, ◌+◌, ◌&&◌, ap, arith, get_or, inl, inr, List, [], ◌∷◌, length, Option, None, Some, Ok, Err, refl, set, subst, sym, true, false, ℕ, Bool}
+use Rattle.std.proofs.Common.{◌≡◌, ◌∙◌, ◌*◌, ◌≤◌, ◌<◌, ◌+◌, ◌&&◌, ap, arith, get_or, inl, inr, List, [], ◌∷◌, length, Option, None, Some, Ok, Err, refl, set, subst, true, false, ℕ, Bool}
 use Rattle.std.specs.Prelude.{is_none, nat_lt, nat_le, not}
 use Rattle.std.specs.List.{list_any, range_with_len}
 use Rattle.std.proofs.lemmas.Bool.Decides.{nat_tests}
@@ -38,9 +38,9 @@ use Rattle.cfs_tracker.proofs.Tagging.{tags-count}
 use Rattle.cfs_tracker.proofs.Trimming.{follows-trimmed}
 use Rattle.cfs_inode.specs.Makes.{AnyBetween, CallMakes}
 use Rattle.cfs_inode.specs.Marking.{answer_for}
-use Rattle.cfs_inode.specs.Stands.{IsAtRest, Stands, Together}
+use Rattle.cfs_inode.specs.Stands.{IsAtRest, Stands}
 use Rattle.cfs_inode.specs.Trims.{block_at, with_block_cell}
-use Rattle.cfs_inode.specs.View.{Held, Seens, StateView}
+use Rattle.cfs_inode.specs.View.{StateView}
 use Rattle.cfs_inode.proofs.Blocks.{block-put, follows-moving, held-free, retagged, set-set, with-none}
 use Rattle.cfs_inode.proofs.Zeros.{blank-tried, past-blank}
 use Rattle.cfs_inode.proofs.Goods.{good}

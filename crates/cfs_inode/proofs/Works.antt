@@ -1,7 +1,7 @@
 -- What there is to do, of a tracker whose slots and blocks are told as something else.
-use Rattle.std.proofs.Common.{◌≡◌, ◌∙◌, ◌-◌, ◌&&◌, ◌||◌, ap, inl, inr, List, [], ◌∷◌, map, length, get_or, Option, None, Some, refl, sym, true, false, Bool, ℕ, zero, suc, if◌then◌else◌}
-use Rattle.std.specs.Prelude.{find, is_some, nat_lt, option_map}
-use Rattle.std.specs.List.{list_any, range_with_len}
+use Rattle.std.proofs.Common.{◌≡◌, ◌∙◌, ◌&&◌, ap, inl, inr, List, [], ◌∷◌, map, length, Option, None, Some, refl, true, false, Bool, ℕ, zero, suc}
+use Rattle.std.specs.Prelude.{find, nat_lt, option_map}
+use Rattle.std.specs.List.{range_with_len}
 use Rattle.std.proofs.lemmas.Bool.{cases_Bool}
 use Rattle.std.proofs.lemmas.List.{length-map}
 use Rattle.cfs_file.specs.declared.span.Span.{Span}
@@ -15,12 +15,11 @@ use Rattle.cfs_tracker.specs.declared.pending.Pending.{Pending}
 use Rattle.cfs_tracker.specs.declared.reading.Reading.{Reading}
 use Rattle.cfs_tracker.specs.Admit.{is_mapped}
 use Rattle.cfs_tracker.specs.Cells.{cell_at}
-use Rattle.cfs_tracker.specs.Dispatch.{ahead, first_cell, holder, is_ahead, is_waiting_doing, is_wanted_cell, lent_to, lesser, next_cell, read_place, is_read_ahead, second_cell, step_behind, step_of, step_of_blocks, step_with}
+use Rattle.cfs_tracker.specs.Dispatch.{ahead, first_cell, holder, is_ahead, is_waiting_doing, is_wanted_cell, lent_to, lesser, next_cell, read_place, is_read_ahead, second_cell, step_behind, step_of}
 use Rattle.cfs_tracker.specs.Listing.{is_listed, listed, listed_doubt, listing, state_in}
 use Rattle.cfs_tracker.specs.Reads.{blocker_of, has_needed, is_before, is_live_doing, place_of}
 use Rattle.cfs_tracker.specs.View.{TrackerView}
-use Rattle.cfs_tracker.specs.Work.{is_noop_doing, is_to_do, next_work, read_waits, takes_now, work_of}
-use Rattle.cfs_tracker.specs.declared.work_item.Work.{Work}
+use Rattle.cfs_tracker.specs.Work.{is_noop_doing, is_to_do, next_work, work_of}
 use Rattle.cfs_inode.specs.View.{told, told_cell, told_doing, told_doubt, told_entry, told_option}
 
 -- ---- the first that passes a test

@@ -1,12 +1,11 @@
 -- Blocks that hold zeros in every image.
-use Rattle.std.proofs.Common.{◌≡◌, ◌∙◌, ◌⊎◌, ◌<◌, ◌+◌, ◌*◌, ◌/◌, ap, arith, get_or, inl, inr, Option, None, Some, refl, replicate, subst, sym, true, false, zero, suc, ℕ, Bool}
+use Rattle.std.proofs.Common.{◌≡◌, ◌∙◌, ◌⊎◌, ◌<◌, ◌+◌, ◌*◌, ◌/◌, ap, arith, get_or, inl, inr, Option, Some, refl, replicate, subst, sym, true, false, zero, suc, ℕ, Bool}
 use Rattle.cfs_file.specs.declared.sizes.TheConstants.{BLOCK_LEN, FILE_BLOCKS}
 use Rattle.cfs_core.specs.declared.event.Event.TheVariants as events
 use Rattle.cfs_core.specs.declared.flag.Flag.{Flag}
 use Rattle.cfs_core.specs.declared.flag.Flag.TheVariants.{Off, On, Unsure}
 use Rattle.cfs_core.specs.declared.inode_core.Core.{Core}
 use Rattle.cfs_core.specs.Words.{can_be, is_on}
-use Rattle.cfs_core.specs.Medium.{is_loose}
 use Rattle.cfs_core.specs.May.{is_written}
 use Rattle.cfs_core.specs.After.{after}
 use Rattle.cfs_core.proofs.Legal.{same_number}
@@ -14,10 +13,9 @@ use Rattle.cfs_core_laws.specs.Reached.{IsReached}
 use Rattle.cfs_core_laws.proofs.Blanks.{calm-at}
 use Rattle.cfs_core_laws.proofs.Whole.{whole}
 use Rattle.cfs_pmem.specs.Images.{Seen}
-use Rattle.cfs_block.specs.BlockImages as blocks
-use Rattle.cfs_block.specs.BlockImages.{AllBlockImages, BlockStep, Content, IsBlockImage, IsTaggedFrom, IsZero, zeros}
+use Rattle.cfs_block.specs.BlockImages.{AllBlockImages, BlockStep, Content, IsTaggedFrom, IsZero, zeros}
 use Rattle.cfs_medium.specs.BlockEvents.{IsBlank}
-use Rattle.cfs_medium.specs.Shows.{BlockFits, Shows, is_for}
+use Rattle.cfs_medium.specs.Shows.{Shows, is_for}
 use Rattle.cfs_medium.specs.Store.{tag_of}
 use Rattle.cfs_medium.specs.World.{IsImageAt, World}
 

@@ -1,5 +1,5 @@
 -- A change is admitted.
-use Rattle.std.specs.Prelude.{ℕ, ◌≡◌, ◌+◌, ◌<◌, Bool, true, false, Option, Some, None, Ok, Err, List, [], ◌∷◌, ◌++◌, ◌≤◌, is_some, length, map}
+use Rattle.std.specs.Prelude.{ℕ, ◌≡◌, ◌<◌, Bool, true, false, Option, Some, None, Ok, Err, List, [], ◌∷◌, ◌++◌, ◌≤◌, is_some, length}
 use Rattle.cfs_file.specs.declared.entry.Entry.{Entry}
 use Rattle.cfs_file.specs.declared.request.Request.{Request}
 use Rattle.cfs_file.specs.declared.request.Request.TheVariants as requests
@@ -9,10 +9,7 @@ use Rattle.cfs_core.specs.declared.event.Event.{Event}
 use Rattle.cfs_core.specs.declared.event.Event.TheVariants as events
 use Rattle.cfs_pmem.specs.declared.trace.Asked.{Asked}
 use Rattle.cfs_pmem.specs.Images.{Seen, WordStep}
-use Rattle.cfs_slot.specs.declared.slot.Slot.{Slot}
 use Rattle.cfs_slot.specs.declared.staged.Staged.{Staged}
-use Rattle.cfs_slot.specs.Regions.{of_slots}
-use Rattle.cfs_vec.specs.declared.fixed_vec.FixedVec.{FixedVec}
 use Rattle.cfs_tracker.specs.declared.in_doubt.InDoubt.{InDoubt}
 use Rattle.cfs_tracker.specs.Admit.{bare_needed, long_after}
 use Rattle.cfs_inode.specs.declared.admit_answer.AdmitAnswer.{AdmitAnswer}

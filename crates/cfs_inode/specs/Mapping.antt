@@ -1,5 +1,5 @@
 -- All blocks that a request needs are mapped.
-use Rattle.std.specs.Prelude.{ℕ, ◌≡◌, Bool, true, Option, Some, None, List, [], ◌∷◌, map}
+use Rattle.std.specs.Prelude.{ℕ, ◌≡◌, Bool, true, Some, None, List, [], ◌∷◌, map}
 use Rattle.std.specs.List.{list_all}
 use Rattle.cfs_file.specs.declared.span.Span.{Span}
 use Rattle.cfs_core.specs.declared.event.Event.{Event}

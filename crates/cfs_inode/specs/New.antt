@@ -1,5 +1,5 @@
 -- A state of a file of which nothing is pending.
-use Rattle.std.specs.Prelude.{ℕ, ◌+◌, ◌*◌, ◌≡◌, ◌≤◌, ◌<◌, ◌==◌, Option, Some, None, List, [], ◌∷◌, map, length, get_or, set, is_some, if◌then◌else◌}
+use Rattle.std.specs.Prelude.{ℕ, ◌+◌, ◌*◌, ◌≡◌, ◌≤◌, ◌<◌, ◌==◌, Option, Some, None, List, [], ◌∷◌, length, get_or, set, is_some, if◌then◌else◌}
 use Rattle.cfs_file.specs.declared.sizes.TheConstants.{BLOCK_LEN, FILE_BLOCKS}
 use Rattle.cfs_pmem.specs.Images.{IsSure, Seen, WordStep, words_of}
 use Rattle.cfs_block.specs.BlockImages.{BlockStep, IsSureBlock, content_of}
@@ -15,7 +15,7 @@ use Rattle.cfs_tracker.specs.New.{stored_view}
 use Rattle.cfs_tracker.specs.View.{TrackerView}
 use Rattle.cfs_inode.specs.declared.mapped.Mapped.{Mapped}
 use Rattle.cfs_inode.specs.Stands.{Together}
-use Rattle.cfs_inode.specs.View.{Held, Seens, StateView}
+use Rattle.cfs_inode.specs.View.{StateView}
 
 abbrev pub told_mapped : {B C : Type 0} → (B → C) → Mapped B → Mapped C
 told_mapped tell mapped = record { at = mapped.at; block = tell mapped.block }

@@ -1,4 +1,4 @@
-use Rattle.std.proofs.Common.{◌≡◌, ◌∙◌, ap, sym, subst, ℕ}
+use Rattle.std.proofs.Common.{◌∙◌, ap, sym, subst, ℕ}
 use Rattle.cfs_slot.specs.Regions.{of_staged}
 use Rattle.cfs_slot.specs.Words.{grant_of}
 use Rattle.cfs_pmem.specs.Images.{words_of}

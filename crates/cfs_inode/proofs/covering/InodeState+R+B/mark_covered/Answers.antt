@@ -1,5 +1,4 @@
-use Rattle.std.proofs.Common.{◌≡◌, ◌+◌, ◌≤◌, ◌<◌, arith, None, Some, subst, sym, true, false, ℕ, Bool}
-use Rattle.cfs_tracker.specs.Mark.{next_mark}
+use Rattle.std.proofs.Common.{◌+◌, ◌≤◌, arith, None, Some, subst, sym, ℕ}
 use Rattle.cfs_inode.specs.Covering.{is_marked}
 use Rattle.cfs_inode.specs.View.{state_view}
 use Rattle.cfs_inode.proofs.Coverings.{HasMarked, at-most-one, marked-all, marked-next, marked-none, named-is}

@@ -1,5 +1,4 @@
-use Rattle.std.proofs.Common.{◌≡◌, ◌∙◌, ap, List, [], ◌∷◌, refl, subst, sym, rules}
-use Rattle.cfs_pmem.specs.declared.trace.Asked.{Asked}
+use Rattle.std.proofs.Common.{◌∙◌, ap, [], ◌∷◌, refl, subst, sym, rules}
 use Rattle.cfs_job.specs.Jobs.{job_view}
 use Rattle.cfs_job.specs.Views.{JobView}
 use Rattle.cfs_tracker.specs.View.{view_of}

@@ -1,5 +1,4 @@
-use Rattle.std.proofs.Common.{◌≡◌, ◌∙◌, ap, ℕ, Bool, List, [], ◌∷◌, map, Ok, Err, refl, subst, sym, true, false, arith, rules}
-use Rattle.cfs_pmem.specs.Images.{Seen, WordStep}
+use Rattle.std.proofs.Common.{◌≡◌, ◌∙◌, ap, ℕ, Bool, ◌∷◌, map, Ok, Err, refl, subst, sym, arith, rules}
 use Rattle.cfs_job.specs.Jobs.{job_view, request_in}
 use Rattle.cfs_job.specs.Steps.{steps_left}
 use Rattle.cfs_slot.specs.declared.live.Live.{Live}
@@ -11,8 +10,8 @@ use Rattle.cfs_tracker.specs.View.{view_of}
 use Rattle.cfs_inode.specs.declared.size_answer.SizeAnswer.TheVariants as went
 use Rattle.cfs_inode.specs.Backs.{EndMakes, held_back, tile_back}
 use Rattle.cfs_inode.specs.Ends.{Closes}
-use Rattle.cfs_inode.specs.Finishing.{Closed, IsAllDone, closing, is_right, keeping, writing}
-use Rattle.cfs_inode.specs.View.{Held, Seens, StateView, held_of, seens_of, state_view}
+use Rattle.cfs_inode.specs.Finishing.{IsAllDone, closing, is_right, keeping, writing}
+use Rattle.cfs_inode.specs.View.{Held, StateView, held_of, seens_of, state_view}
 use Rattle.cfs_inode.proofs.Closings.{closes-err, closes-ok}
 use Rattle.cfs_inode.proofs.EndTells.{CameBack, applied-is, came-apart, has-out, last-told, more-is, put-back-is, retired-is, size-told, unsure-is}
 use Rattle.cfs_inode.proofs.Finishings.{fails-made, more-made, retired-made}

@@ -1,4 +1,4 @@
-use Rattle.std.proofs.Common.{◌≡◌, ◌∙◌, ap, ◌∷◌, map, None, Ok, Err, subst, sym, true, false, ℕ}
+use Rattle.std.proofs.Common.{◌≡◌, ◌∙◌, ap, map, Ok, Err, subst, sym, true, false, ℕ}
 use Rattle.cfs_core.specs.May.{is_change}
 use Rattle.cfs_core.specs.Medium.{placed}
 use Rattle.cfs_file.specs.Span.{span}
@@ -6,7 +6,6 @@ use Rattle.cfs_pmem.specs.Images.{words_of}
 use Rattle.cfs_slot.specs.Regions.{of_staged, tails_of_staged, words_in}
 use Rattle.cfs_slot.specs.Words.{request_of, with_offset}
 use Rattle.cfs_tracker.specs.View.{view_of}
-use Rattle.cfs_inode.specs.Makes.{CallMakes}
 use Rattle.cfs_inode.specs.Placing.{IsStagedFor, Places, SetsHead, staged_seens}
 use Rattle.cfs_inode.specs.View.{seens_of, state_view, told_doubt, told_option}
 use Rattle.cfs_inode.proofs.Closings.{sets-err, sets-ok}

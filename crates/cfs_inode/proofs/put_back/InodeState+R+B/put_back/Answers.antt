@@ -1,6 +1,5 @@
-use Rattle.std.proofs.Common.{◌≡◌, ◌∙◌, ap, refl, subst, sym}
+use Rattle.std.proofs.Common.{ap, subst, sym}
 use Rattle.cfs_job.specs.Jobs.{job_view, request_in}
-use Rattle.cfs_slot.specs.Regions.{place_of}
 use Rattle.cfs_tracker.specs.View.{view_of}
 use Rattle.cfs_inode.specs.Backs.{PutsBack, held_back, tile_back}
 use Rattle.cfs_inode.specs.View.{StateView, held_of, seens_of, state_view}

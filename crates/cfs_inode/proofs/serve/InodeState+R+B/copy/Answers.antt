@@ -1,4 +1,4 @@
-use Rattle.std.proofs.Common.{◌≡◌, ◌∙◌, ◌<◌, ap, get_or, if◌then◌else◌, length, subst, ℕ}
+use Rattle.std.proofs.Common.{◌≡◌, ◌∙◌, ◌<◌, ap, get_or, if◌then◌else◌, subst}
 use Rattle.std.specs.Prelude.{nat_lt}
 use Rattle.cfs_inode.specs.Serves.{stored_from}
 use Rattle.cfs_inode.specs.View.{StateView, state_view}

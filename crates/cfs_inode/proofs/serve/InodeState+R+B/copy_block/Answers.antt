@@ -1,5 +1,4 @@
-use Rattle.std.proofs.Common.{◌≡◌, ◌∙◌, ◌+◌, ◌++◌, ap, get_or, length, List, [], None, Some, subst, sym, ℕ}
-use Rattle.std.specs.Prelude.{IsTrue}
+use Rattle.std.proofs.Common.{◌≡◌, ◌∙◌, ◌+◌, ◌++◌, ap, get_or, length, subst, sym}
 use Rattle.cfs_pmem.specs.Operations.{all_allowed}
 use Rattle.cfs_block.specs.BlockImages.{content_of}
 use Rattle.cfs_tracker.specs.declared.cell.Cell.TheVariants as kinds

@@ -1,6 +1,6 @@
 use Rattle.std.proofs.Common.{◌≡◌, ◌∙◌, ap, None, Option, Some, sym, ℕ}
 use Rattle.std.specs.Option.{option_or}
-use Rattle.cfs_core.specs.Words.{end_of, start_of}
+use Rattle.cfs_core.specs.Words.{start_of}
 use Rattle.cfs_tracker.specs.Reads.{blocker_of}
 use Rattle.cfs_tracker.specs.View.{read_at, view_of}
 use Rattle.cfs_inode.specs.Serves.{lender_for, lender_in}

@@ -1,4 +1,4 @@
-use Rattle.std.proofs.Common.{rules, ◌≡◌, ◌∙◌, ◌<◌, ap, arith, ℕ, [], ◌∷◌, length, None, Some, true, false, refl, subst, sym}
+use Rattle.std.proofs.Common.{rules, ◌≡◌, ◌<◌, ap, arith, [], ◌∷◌, length, None, Some, true, false, refl, subst, sym}
 use Rattle.cfs_core.specs.declared.event.Event.TheVariants as events
 use Rattle.cfs_tracker.specs.Cells.{cell_at, is_bare, moving}
 use Rattle.cfs_tracker.specs.View.{TrackerView, view_of}
