@@ -2,7 +2,7 @@ ghost use Rattle.std.specs.Prelude.{◌≤◌};
 
 use cfs_cred::Credential;
 use cfs_dir::Path;
-use cfs_fresh::{Left, ns_state};
+use cfs_fresh::ns_state;
 use cfs_kernel::{NsRefusal, NsState};
 use cfs_pmem::{MemRegion, Meter};
 use cfs_queue::Queue;
@@ -425,6 +425,14 @@ fn failed_requests_take_no_place(rt: HostRuntime) -> Result<(), Fail> {
     Ok(())
 }
 
+/// The word at the front of a region; 0 without a region.
+fn first_word(region: Option<&MemRegion>) -> u64 {
+    match region {
+        Some(region) => region.words().first().copied().unwrap_or(0),
+        None => 0,
+    }
+}
+
 /// Makes seventy directories; how many of the answers are as wanted.
 fn make_seventy(bench: &mut Bench) -> Result<u64, Fail> {
     let alloc = bench.alloc;
@@ -440,24 +448,22 @@ fn make_seventy(bench: &mut Bench) -> Result<u64, Fail> {
     Ok(right)
 }
 
-/// What a crash leaves of the tree.
-fn left_of(state: NsState<MemRegion>, pick: u64) -> Left {
-    let (stored, _home) = state.into_parts();
-    Left::of(stored, pick)
-}
-
 /// The selector's word, and the gates of the first seven records of the journal.
 fn words_left(state: NsState<MemRegion>) -> [u64; 8] {
-    let left = left_of(state, 1);
+    let (stored, _home) = state.into_parts();
+    let (_tree, journal, checkpoint) = stored.into_parts();
+    let (selector, _tables) = checkpoint.into_parts();
+    let records = journal.into_parts();
+    let gate = |place: usize| first_word(records.get(place));
     [
-        left.selector(),
-        left.gate(0),
-        left.gate(1),
-        left.gate(2),
-        left.gate(3),
-        left.gate(4),
-        left.gate(5),
-        left.gate(6),
+        first_word(Some(&selector)),
+        gate(0),
+        gate(1),
+        gate(2),
+        gate(3),
+        gate(4),
+        gate(5),
+        gate(6),
     ]
 }
 
@@ -467,64 +473,5 @@ fn seventy_directories(rt: HostRuntime) -> Result<(), Fail> {
     let mut bench = begun(rt.alloc(), 1)?;
     assert_eq!(rt; make_seventy(&mut bench)?, 70);
     assert_eq!(rt; words_left(bench.state), [129, 65, 66, 67, 68, 69, 70, 7]);
-    Ok(())
-}
-
-/// The names f, g and n as words.
-const F: u64 = 0x66;
-
-const G: u64 = 0x67;
-
-const N: u64 = 0x6e;
-
-/// A store of the files f and g, at the records 1 and 2, whose next request stops at a step: what it
-/// answers, and the names that a crash leaves at the records 1 to 3.
-fn left_by(alloc: Global, request: &str, step: u64, pick: u64) -> Result<(String, [u64; 3]), Fail> {
-    let mut bench = begun(alloc, 2)?;
-    bench.open(10, "rwc", "640", "/f")?;
-    bench.open(10, "rwc", "640", "/g")?;
-    bench.meter.stop(step.max(1));
-    let answer = match request {
-        "mkdir" => bench.make_dir(10, "755", "/n")?,
-        _ => bench.rename(10, "/f", "/g")?,
-    };
-    let left = left_of(bench.state, pick);
-    let names = [
-        left.recovered(1, 7),
-        left.recovered(2, 7),
-        left.recovered(3, 7),
-    ];
-    Ok((answer, names))
-}
-
-/// Each stop of a request. It is recovered once the gate of its record is written, step 17, if the
-/// crash keeps what was present, and once that is persisted, step 18, in any case.
-fn each_stop(
-    rt: &impl Abort,
-    alloc: Global,
-    request: &str,
-    told: &str,
-    after: [u64; 3],
-) -> Result<(), Fail> {
-    for step in 1..20 {
-        for (pick, least) in [(0, 19), (1, 18)] {
-            let wanted = if step < least { [F, G, 0] } else { after };
-            let answer = if step < 19 { "device fault" } else { told };
-            let (given, names) = left_by(alloc, request, step, pick)?;
-            assert_eq!(rt;
-                given.as_str(),
-                answer,
-                "{request}, stop {step}, pick {pick}"
-            );
-            assert_eq!(rt; names, wanted, "{request}, stop {step}, pick {pick}");
-        }
-    }
-    Ok(())
-}
-
-#[test]
-fn a_stop_leaves_a_request_made_or_not(rt: HostRuntime) -> Result<(), Fail> {
-    each_stop(&rt, rt.alloc(), "mkdir", "at 3 ino 4", [F, G, N])?;
-    each_stop(&rt, rt.alloc(), "rename", "at 3", [G, 0, 0])?;
     Ok(())
 }
