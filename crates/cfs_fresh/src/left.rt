@@ -1,5 +1,5 @@
-//! What a crash leaves of a tree of names, read plainly: by the words alone, without the crates that
-//! recover it.
+//! What a crash leaves of a tree of names, read plainly: by the words alone, without the crates
+//! that recover it.
 
 use cfs_names::StoredTree;
 use cfs_pmem::{MemRegion, Pick};

@@ -1,5 +1,7 @@
 -- Blocks that are alike for one inode have the same bytes of it.
-use Rattle.std.proofs.Common.{◌≡◌, ◌≢◌, ◌⊎◌, ◌∙◌, ◌==◌, inl, inr, ℕ, zero, suc, ◌/◌, ◌%◌, ◌<◌, nat_lt, Bool, true, false, if◌then◌else◌, cond, Option, Some, None, List, [], ◌∷◌, length, get_or, set, arith, refl, sym, ap, subst}
+use Rattle.std.proofs.Common.{◌≡◌, ◌≢◌, ◌⊎◌, ◌∙◌, ◌==◌, inl, inr, ℕ, zero, suc, ◌/◌, ◌%◌, ◌<◌}
+use Rattle.std.proofs.Common.{nat_lt, Bool, true, false, if◌then◌else◌, cond, Option, Some, None}
+use Rattle.std.proofs.Common.{List, [], ◌∷◌, length, get_or, set, arith, refl, sym, ap, subst}
 use Rattle.std.specs.List.{find}
 use Rattle.std.proofs.lemmas.Bool.{cases_lt}
 use Rattle.std.proofs.lemmas.Bool.Decides.{nat_tests}

@@ -1,8 +1,11 @@
 -- Calls of a mount on the devices: at each moment a crash leaves the files.
-use Rattle.std.proofs.Common.{◌≡◌, ◌≢◌, ◌⊎◌, ◌∙◌, inl, inr, ℕ, zero, suc, ◌+◌, ◌*◌, ◌/◌, ◌%◌, ◌<◌, ◌≤◌, nat_lt, Bool, true, false, if◌then◌else◌, List, [], ◌∷◌, length, drop, get_or, set, arith, refl, sym, ap, subst}
+use Rattle.std.proofs.Common.{◌≡◌, ◌≢◌, ◌⊎◌, ◌∙◌, inl, inr, ℕ, zero, suc, ◌+◌, ◌*◌, ◌/◌, ◌%◌, ◌<◌}
+use Rattle.std.proofs.Common.{◌≤◌, nat_lt, Bool, true, false, if◌then◌else◌, List, [], ◌∷◌, length}
+use Rattle.std.proofs.Common.{drop, get_or, set, arith, refl, sym, ap, subst}
 use Rattle.std.proofs.lemmas.Bool.{cases_lt}
 use Rattle.std.proofs.lemmas.Bool.Decides.{nat_tests}
-use Rattle.std.proofs.lemmas.List.{drop-set-add, drop-set-lt, get_or-drop, get_or-set_other, get_or-set_same, length-set, set-get_or, set-set, set_past}
+use Rattle.std.proofs.lemmas.List.{drop-set-add, drop-set-lt, get_or-drop, get_or-set_other}
+use Rattle.std.proofs.lemmas.List.{get_or-set_same, length-set, set-get_or, set-set, set_past}
 use Rattle.cfs_file.specs.declared.sizes.TheConstants.{BLOCK_LEN, FILE_BLOCKS}
 use Rattle.cfs_file.specs.Span.{Touches}
 use Rattle.cfs_core.proofs.Order.{same_or_not}
@@ -12,13 +15,15 @@ use Rattle.cfs_pmem.specs.Images.{Seen, WordStep, IsImage, IsSetFrom, words_of}
 use Rattle.cfs_pmem.specs.Objects.{IsCallOn, IsEachImage, IsImageBut, MomentsOf, seen_at}
 use Rattle.cfs_pmem.proofs.AllMomentLemmas.{Carries, all_among}
 use Rattle.cfs_block.specs.BlockImages.{BlockStep, Content, IsBlockImage, IsTaggedFrom, with_tag}
-use Rattle.cfs_block.specs.Devices.{AreImagesOf, DeviceImages, DeviceMoments, Devices, IsDeviceCall, numbers_of}
+use Rattle.cfs_block.specs.Devices.{AreImagesOf, DeviceImages, DeviceMoments, Devices, IsDeviceCall}
+use Rattle.cfs_block.specs.Devices.{numbers_of}
 use Rattle.cfs_medium.specs.Depicts.{IsFor, content_at}
 use Rattle.cfs_medium.specs.Laws.{IsOfOthers}
 use Rattle.cfs_medium.specs.Store.{tag_of}
 use Rattle.cfs_home.specs.Calls.{AreWordsOf, disk_of, size_in}
 use Rattle.cfs_home.specs.Disks.{AllStay, BlocksBeside, ClosesSlot, Disk, File, SetsSize, shut}
-use Rattle.cfs_home.specs.Laws.{ClosesMayStop, PiecesAreBeside, SizesMayStop, TagsMayStop, WritesMayStop}
+use Rattle.cfs_home.specs.Laws.{ClosesMayStop, PiecesAreBeside, SizesMayStop, TagsMayStop}
+use Rattle.cfs_home.specs.Laws.{WritesMayStop}
 use Rattle.cfs_home.proofs.Disks.{same-stays}
 
 -- ---- regions and blocks, of which one list stays

@@ -1,5 +1,6 @@
 -- Each step of a mount, for all files at once.
-use Rattle.std.proofs.Common.{◌≡◌, ◌≢◌, ◌∙◌, ◌==◌, ◌&&◌, inl, inr, ℕ, not, Bool, true, false, Some, None, List, [], get_or, arith, refl, sym, ap, subst}
+use Rattle.std.proofs.Common.{◌≡◌, ◌≢◌, ◌∙◌, ◌==◌, ◌&&◌, inl, inr, ℕ, not, Bool, true, false, Some}
+use Rattle.std.proofs.Common.{None, List, [], get_or, arith, refl, sym, ap, subst}
 use Rattle.std.specs.List.{Contains}
 use Rattle.std.proofs.lemmas.Bool.Decides.{nat_tests}
 use Rattle.cfs_file.specs.declared.request.Request.{Request}
@@ -9,8 +10,10 @@ use Rattle.cfs_slot.specs.Tails.{tails_at}
 use Rattle.cfs_medium.specs.Store.{by_gate, byte_in, entry_at, live_in}
 use Rattle.cfs_medium.proofs.Slots.{not_live-none}
 use Rattle.cfs_home.specs.Parts.{Closed, Keeps, SizeMoved, SomeTouches, size_after}
-use Rattle.cfs_home.specs.Disks.{AllStay, AreFiles, AreTwo, ClosesSlot, Disk, File, IsOnce, IsReady, SetsSize, Stays, part_of}
-use Rattle.cfs_home.specs.Laws.{ClosesKeepAll, DeadSlotsMayClose, HeldAreHome, OtherBlocksMayChange, OtherSizesMayBeSet, SizesKeepAll, StaysGoOn, WritesKeepAll}
+use Rattle.cfs_home.specs.Disks.{AllStay, AreFiles, AreTwo, ClosesSlot, Disk, File, IsOnce, IsReady}
+use Rattle.cfs_home.specs.Disks.{SetsSize, Stays, part_of}
+use Rattle.cfs_home.specs.Laws.{ClosesKeepAll, DeadSlotsMayClose, HeldAreHome, OtherBlocksMayChange}
+use Rattle.cfs_home.specs.Laws.{OtherSizesMayBeSet, SizesKeepAll, StaysGoOn, WritesKeepAll}
 use Rattle.cfs_home.proofs.Blocks.{byte-held, set-other, written-beside, written-other}
 use Rattle.cfs_home.proofs.Parts.{parts-kept}
 use Rattle.cfs_home.proofs.Slots.{shut-lowest, shut-once, shut-same}

@@ -1,5 +1,7 @@
 -- Where a mount ends: each file is stored, no gate is open, and a core of it is fresh.
-use Rattle.std.proofs.Common.{◌≡◌, ◌∙◌, inl, inr, ℕ, suc, ◌+◌, ◌*◌, ◌/◌, ◌%◌, ◌≤◌, nat_lt, Bool, true, false, if◌then◌else◌, Option, Some, None, List, [], ◌∷◌, length, map, get_or, set, arith, refl, sym, ap, subst}
+use Rattle.std.proofs.Common.{◌≡◌, ◌∙◌, inl, inr, ℕ, suc, ◌+◌, ◌*◌, ◌/◌, ◌%◌, ◌≤◌, nat_lt, Bool}
+use Rattle.std.proofs.Common.{true, false, if◌then◌else◌, Option, Some, None, List, [], ◌∷◌, length}
+use Rattle.std.proofs.Common.{map, get_or, set, arith, refl, sym, ap, subst}
 use Rattle.std.specs.Prelude.{is_some}
 use Rattle.std.specs.List.{list_all, range_with_len}
 use Rattle.std.proofs.lemmas.Bool.{cases_lt}
@@ -26,7 +28,8 @@ use Rattle.cfs_medium.proofs.Slots.{stands-live}
 use Rattle.cfs_medium.proofs.Sorted.{by_gate-has}
 use Rattle.cfs_home.specs.Disks.{Disk, File, IsReady, part_of, shut, stored_in}
 use Rattle.cfs_home.specs.Ends.{IsClosedOrLive, IsDrained, IsLoaded}
-use Rattle.cfs_home.specs.Laws.{EndsAreClosed, EndsAreStored, LoadedAreFresh, LoadedAreThere, LoadedHaveBlocks, ShutSlotsAreSwept}
+use Rattle.cfs_home.specs.Laws.{EndsAreClosed, EndsAreStored, LoadedAreFresh, LoadedAreThere}
+use Rattle.cfs_home.specs.Laws.{LoadedHaveBlocks, ShutSlotsAreSwept}
 use Rattle.cfs_home.specs.Parts.{SomeTouches}
 use Rattle.cfs_home.proofs.Parts.{long-stored, stored-beside}
 

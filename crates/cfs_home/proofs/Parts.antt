@@ -1,5 +1,6 @@
 -- Each step for the lowest live entry keeps the file that a mount finds.
-use Rattle.std.proofs.Common.{◌≡◌, ◌⊎◌, ◌∙◌, inl, inr, ℕ, ◌+◌, ◌<◌, ◌≤◌, List, [], ◌∷◌, length, get_or, arith, refl, sym, ap, subst, ext_get_or}
+use Rattle.std.proofs.Common.{◌≡◌, ◌⊎◌, ◌∙◌, inl, inr, ℕ, ◌+◌, ◌<◌, ◌≤◌, List, [], ◌∷◌, length}
+use Rattle.std.proofs.Common.{get_or, arith, refl, sym, ap, subst, ext_get_or}
 use Rattle.std.specs.List.{range_with_len}
 use Rattle.std.proofs.lemmas.Bool.{cases_lt}
 use Rattle.std.proofs.lemmas.List.{get_or_past}
@@ -13,7 +14,8 @@ use Rattle.cfs_file.proofs.Positions.{length-resized, put-writes, resized-resize
 use Rattle.cfs_core.proofs.Registers.{byte_beside, byte_written}
 use Rattle.cfs_medium.specs.Store.{taken_through}
 use Rattle.cfs_medium.proofs.Blocks.{map-same}
-use Rattle.cfs_home.specs.Parts.{ArePlaced, BytesMoved, Closed, IsHome, IsPlaced, IsSound, Keeps, Part, SizeMoved, SomeTouches, own_byte, size_after, stored_by}
+use Rattle.cfs_home.specs.Parts.{ArePlaced, BytesMoved, Closed, IsHome, IsPlaced, IsSound, Keeps}
+use Rattle.cfs_home.specs.Parts.{Part, SizeMoved, SomeTouches, own_byte, size_after, stored_by}
 use Rattle.cfs_home.specs.Laws.{PartsAreKept}
 
 -- ---- one request

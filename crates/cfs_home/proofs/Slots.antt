@@ -1,5 +1,7 @@
 -- A slot whose gate is closed is taken from the live entries, and all others stay.
-use Rattle.std.proofs.Common.{◌≡◌, ◌≢◌, ◌∙◌, ◌==◌, inl, inr, ℕ, ◌+◌, ◌*◌, ◌/◌, ◌<◌, ◌≤◌, Bool, true, false, if◌then◌else◌, Option, Some, None, List, [], ◌∷◌, ◌++◌, length, map, take, get_or, set, arith, refl, sym, ap, subst}
+use Rattle.std.proofs.Common.{◌≡◌, ◌≢◌, ◌∙◌, ◌==◌, inl, inr, ℕ, ◌+◌, ◌*◌, ◌/◌, ◌<◌, ◌≤◌, Bool, true}
+use Rattle.std.proofs.Common.{false, if◌then◌else◌, Option, Some, None, List, [], ◌∷◌, ◌++◌, length}
+use Rattle.std.proofs.Common.{map, take, get_or, set, arith, refl, sym, ap, subst}
 use Rattle.std.specs.List.{filter_map, flat_map, range_with_len}
 use Rattle.std.proofs.lemmas.Bool.{cases_lt}
 use Rattle.std.proofs.lemmas.Bool.Decides.{nat_tests}
@@ -7,13 +9,16 @@ use Rattle.std.proofs.lemmas.List.{get_or-set_other, get_or-set_same, length-set
 use Rattle.cfs_file.specs.declared.request.Request.{Request}
 use Rattle.cfs_file.specs.declared.request.Request.TheVariants.{Truncate, Write}
 use Rattle.cfs_core.specs.Good.{Rises}
-use Rattle.cfs_slot.specs.Words.{area_of, count_of, gate_of, is_live, kind_of, live_entry, offset_of, tails_of}
+use Rattle.cfs_slot.specs.Words.{area_of, count_of, gate_of, is_live, kind_of, live_entry}
+use Rattle.cfs_slot.specs.Words.{offset_of, tails_of}
 use Rattle.cfs_slot.specs.Tails.{numbers_in, tails_at}
 use Rattle.cfs_core.proofs.Order.{same_or_not}
 use Rattle.cfs_medium.specs.Store.{by_gate, entry_at, live_in}
 use Rattle.cfs_medium.proofs.Has.{Has}
-use Rattle.cfs_medium.proofs.Slots.{live-apart, live-stands, not_live-none, past-none, same-among, stands-live}
-use Rattle.cfs_medium.proofs.Sorted.{at_least, by_gate-has, by_gate-rising, gates, has-by_gate, rises-by_gate}
+use Rattle.cfs_medium.proofs.Slots.{live-apart, live-stands, not_live-none, past-none, same-among}
+use Rattle.cfs_medium.proofs.Slots.{stands-live}
+use Rattle.cfs_medium.proofs.Sorted.{at_least, by_gate-has, by_gate-rising, gates, has-by_gate}
+use Rattle.cfs_medium.proofs.Sorted.{rises-by_gate}
 use Rattle.cfs_home.specs.Disks.{IsOnce, shut}
 use Rattle.cfs_home.specs.Laws.{ShutSlotsLeaveOthers}
 

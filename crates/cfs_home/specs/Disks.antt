@@ -8,7 +8,8 @@ use Rattle.cfs_file.specs.declared.sizes.TheConstants.{BLOCK_LEN, FILE_BLOCKS}
 use Rattle.cfs_file.specs.Span.{Touches}
 use Rattle.cfs_block.specs.BlockImages.{Content}
 use Rattle.cfs_slot.specs.Words.{is_live}
-use Rattle.cfs_medium.specs.Store.{Store, by_gate, byte_in, entry_at, live_in, recovered_file, stored_file}
+use Rattle.cfs_medium.specs.Store.{Store, by_gate, byte_in, entry_at, live_in, recovered_file}
+use Rattle.cfs_medium.specs.Store.{stored_file}
 use Rattle.cfs_medium.specs.Depicts.{IsFor, content_at}
 use Rattle.cfs_medium.specs.Laws.{IsOfOthers}
 use Rattle.cfs_home.specs.Parts.{IsSound, Part, own_byte}

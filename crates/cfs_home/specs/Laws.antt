@@ -1,5 +1,6 @@
 -- What the steps of a mount keep.
-use Rattle.std.specs.Prelude.{ℕ, length, set, ◌+◌, ◌*◌, ◌<◌, ◌≡◌, ◌⊎◌, ◌==◌, if◌then◌else◌, Some, None, List, [], get_or}
+use Rattle.std.specs.Prelude.{ℕ, length, set, ◌+◌, ◌*◌, ◌<◌, ◌≡◌, ◌⊎◌, ◌==◌, if◌then◌else◌, Some}
+use Rattle.std.specs.Prelude.{None, List, [], get_or}
 use Rattle.std.specs.List.{Contains}
 use Rattle.cfs_file.specs.declared.request.Request.{Request}
 use Rattle.cfs_file.specs.declared.sizes.TheConstants.{BLOCK_LEN}
@@ -14,10 +15,15 @@ use Rattle.cfs_block.specs.Devices.{numbers_of}
 use Rattle.cfs_slot.specs.Words.{gate_of}
 use Rattle.cfs_medium.specs.Depicts.{content_at}
 use Rattle.cfs_medium.specs.Store.{block_for, entry_at}
-use Rattle.cfs_home.specs.Calls.{HaveBlocksOf, HaveWordsOf, IsPiece, MountMoments, SetsFirst, SetsTagAt, with_size}
-use Rattle.cfs_home.specs.Disks.{AllStay, AreFiles, AreReady, BlocksBeside, BlocksHold, ChangesBlock, ClosesSlot, Disk, File, IsDead, IsLowest, IsMapped, IsNoNode, IsNoTag, SetsSize, WritesBlocks, part_of, recovered_in, shut, stored_in}
+use Rattle.cfs_home.specs.Calls.{HaveBlocksOf, HaveWordsOf, IsPiece, MountMoments, SetsFirst}
+use Rattle.cfs_home.specs.Calls.{SetsTagAt, with_size}
+use Rattle.cfs_home.specs.Disks.{AllStay, AreFiles, AreReady, BlocksBeside, BlocksHold}
+use Rattle.cfs_home.specs.Disks.{ChangesBlock, ClosesSlot, Disk, File, IsDead, IsLowest, IsMapped}
+use Rattle.cfs_home.specs.Disks.{IsNoNode, IsNoTag, SetsSize, WritesBlocks, part_of, recovered_in}
+use Rattle.cfs_home.specs.Disks.{shut, stored_in}
 use Rattle.cfs_home.specs.Ends.{AreDrained, IsClosedOrLive, IsDrained, IsLoaded}
-use Rattle.cfs_home.specs.Parts.{BytesMoved, Closed, IsHome, IsPlaced, IsSound, Keeps, Part, SizeMoved, size_after}
+use Rattle.cfs_home.specs.Parts.{BytesMoved, Closed, IsHome, IsPlaced, IsSound, Keeps, Part}
+use Rattle.cfs_home.specs.Parts.{SizeMoved, size_after}
 
 -- A mount may stop behind any step for the lowest entry, and another mount finds the same file.
 abbrev pub PartsAreKept : Type 0

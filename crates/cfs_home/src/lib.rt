@@ -7,7 +7,13 @@
 //! `specs/Calls.antt` has the disk that a crash leaves of a store's devices, and calls on these.
 #![tactic(auto)]
 
-ghost use Rattle.cfs_home.specs.Laws.{ClosesKeepAll, ClosesMayStop, DeadSlotsMayClose, EndsAreClosed, EndsAreStored, GatesAreClosed, HeldAreHome, LoadedAreFresh, LoadedAreThere, LoadedHaveBlocks, OtherBlocksMayChange, OtherSizesMayBeSet, PartsAreKept, PiecesAreBeside, ShutSlotsAreSwept, ShutSlotsLeaveOthers, SizesAreSet, SizesKeepAll, SizesMayStop, StaysGoOn, TagsMayStop, WritesKeepAll, WritesMayStop};
+ghost use Rattle.cfs_home.specs.Laws.{ClosesKeepAll, ClosesMayStop, DeadSlotsMayClose};
+ghost use Rattle.cfs_home.specs.Laws.{EndsAreClosed, EndsAreStored, GatesAreClosed, HeldAreHome};
+ghost use Rattle.cfs_home.specs.Laws.{LoadedAreFresh, LoadedAreThere, LoadedHaveBlocks};
+ghost use Rattle.cfs_home.specs.Laws.{OtherBlocksMayChange, OtherSizesMayBeSet, PartsAreKept};
+ghost use Rattle.cfs_home.specs.Laws.{PiecesAreBeside, ShutSlotsAreSwept, ShutSlotsLeaveOthers};
+ghost use Rattle.cfs_home.specs.Laws.{SizesAreSet, SizesKeepAll, SizesMayStop, StaysGoOn};
+ghost use Rattle.cfs_home.specs.Laws.{TagsMayStop, WritesKeepAll, WritesMayStop};
 
 /// Bytes of the lowest live entry may change, the size word may be set for it, and it may be closed
 /// once it is home: each step keeps the file that a mount finds.

@@ -1,5 +1,6 @@
 -- A change is admitted.
-use Rattle.std.proofs.Common.{◌≡◌, ◌∙◌, ◌≤◌, ◌<◌, ◌+◌, ◌++◌, ap, arith, List, [], ◌∷◌, length, Option, None, Some, Ok, Err, refl, subst, sym, true, false, ℕ, Bool}
+use Rattle.std.proofs.Common.{◌≡◌, ◌∙◌, ◌≤◌, ◌<◌, ◌+◌, ◌++◌, ap, arith, List, [], ◌∷◌, length}
+use Rattle.std.proofs.Common.{Option, None, Some, Ok, Err, refl, subst, sym, true, false, ℕ, Bool}
 use Rattle.cfs_file.specs.declared.entry.Entry.{Entry}
 use Rattle.cfs_file.specs.declared.request.Request.{Request}
 use Rattle.cfs_file.specs.declared.sizes.TheConstants.{LONGEST_FILE}
@@ -20,11 +21,14 @@ use Rattle.std.specs.Prelude.{is_some, nat_le}
 use Rattle.cfs_core.specs.declared.event.Event.TheVariants as events
 use Rattle.cfs_pmem.specs.declared.trace.Asked.{Asked}
 use Rattle.std.proofs.lemmas.Bool.Decides.{nat_tests}
-use Rattle.cfs_inode.specs.Admitting.{AdmissionMakes, AdmitEnd, HasEnough, ReadyMakes, SettledMakes, admitted, count_in, doubted, freed_by, is_here, need_blocks, offset_in, ready_events, refused, settled_events, too_big}
+use Rattle.cfs_inode.specs.Admitting.{AdmissionMakes, AdmitEnd, HasEnough, ReadyMakes, SettledMakes}
+use Rattle.cfs_inode.specs.Admitting.{admitted, count_in, doubted, freed_by, is_here, need_blocks}
+use Rattle.cfs_inode.specs.Admitting.{offset_in, ready_events, refused, settled_events, too_big}
 use Rattle.cfs_inode.specs.Admitting.AdmitsReady.{doubts, opens}
 use Rattle.cfs_inode.specs.Admitting.AdmitsSettled.{mapped, unmapped, unplaced}
 use Rattle.cfs_inode.specs.Admitting.Admits.{settles, too_few, too_long, unsettled}
-use Rattle.cfs_inode.specs.Ends.{CloseEnd, Settles, closed, failed, nothing, settle_events, slots_in_doubt, with_doubt, without_doubt}
+use Rattle.cfs_inode.specs.Ends.{CloseEnd, Settles, closed, failed, nothing, settle_events}
+use Rattle.cfs_inode.specs.Ends.{slots_in_doubt, with_doubt, without_doubt}
 use Rattle.cfs_inode.specs.Covering.{MarksCovered, tried_events}
 use Rattle.cfs_inode.specs.Makes.{CallMakes}
 use Rattle.cfs_inode.specs.Mapping.{MapsBlocks, Tagged, TagsEach, tag_events}
@@ -49,13 +53,15 @@ pub ready-opened : (obeys : Bool) (request : Request) (grant : ℕ) (staged : Se
     ReadyMakes obeys request grant staged
     (admitted place (offset_in request old.tracker.long) (count_in request) marked) asked_old old
     asked_new new
-ready-opened obeys request grant staged place marked asked_old old asked mid asked_new new gate makes marks = (
-  opens place marked asked mid gate marks,
-  λ entry next.
-      call-then (events.Admit entry grant true ∷ []) (tried_events place marks.tries) asked_old old
-      asked mid asked_new new (ap (λ (s : StateView). s.ino) gate.2.1) (makes entry next)
-      marks.makes,
-)
+ready-opened obeys request grant staged place marked asked_old old asked mid asked_new new gate
+    makes marks = (
+      opens place marked asked mid gate marks,
+      λ entry next.
+          call-then (events.Admit entry grant true ∷ []) (tried_events place marks.tries) asked_old
+          old
+          asked mid asked_new new (ap (λ (s : StateView). s.ino) gate.2.1) (makes entry next)
+          marks.makes,
+    )
 
 pub ready-doubted : (obeys : Bool) (request : Request) (grant : ℕ) (staged : Seens)
     (asked_old : List Asked) (old : StateView) (asked_new : List Asked) (new : StateView) →
@@ -109,7 +115,8 @@ pub settled-unplaced : (obeys tags keeps : Bool) (request : Request) (grant : �
     CallMakes [] asked_old old asked_new old →
     SettledMakes obeys tags keeps request grant staged (refused now) asked_old stock old asked_new
     stock old
-settled-unplaced obeys tags keeps request grant staged now asked_old stock old asked_new places makes =
+settled-unplaced obeys tags keeps request grant staged now asked_old stock old asked_new places
+    makes =
     (unplaced now places refl refl, λ entry next. makes)
 
 pub settled-unmapped : (obeys tags keeps : Bool) (request : Request) (grant : ℕ) (staged : Seens)
@@ -121,12 +128,13 @@ pub settled-unmapped : (obeys tags keeps : Bool) (request : Request) (grant : �
     stock_new new →
     SettledMakes obeys tags keeps request grant staged (refused now) asked_old stock_old old
     asked_new stock_new new
-settled-unmapped obeys tags keeps request grant staged now asked_old stock_old old asked asked_new stock_new new places makes maps = (
-  unmapped now asked places maps,
-  λ entry next.
-      call-then [] (tag_events maps.tries) asked_old old asked old asked_new new refl makes
-      maps.makes,
-)
+settled-unmapped obeys tags keeps request grant staged now asked_old stock_old old asked asked_new
+    stock_new new places makes maps = (
+      unmapped now asked places maps,
+      λ entry next.
+          call-then [] (tag_events maps.tries) asked_old old asked old asked_new new refl makes
+          maps.makes,
+    )
 
 pub settled-mapped : (obeys tags keeps : Bool) (request : Request) (grant : ℕ) (staged : Seens)
     (now : Seens) (asked_old : List Asked) (stock_old : Blocks) (old : StateView)
@@ -139,7 +147,8 @@ pub settled-mapped : (obeys tags keeps : Bool) (request : Request) (grant : ℕ)
     ReadyMakes obeys request grant now end behind mid asked_new new →
     SettledMakes obeys tags keeps request grant staged end asked_old stock_old old asked_new
     stock_new new
-settled-mapped obeys tags keeps request grant staged now asked_old stock_old old asked behind mid asked_new stock_new new end places makes maps ready =
+settled-mapped obeys tags keeps request grant staged now asked_old stock_old old asked behind mid
+    asked_new stock_new new end places makes maps ready =
     let keep = tags-keep tags keeps (span request old.tracker.long) maps.tries asked stock_old old
     behind stock_new mid maps.each in (
       mapped now asked behind mid end places maps ready.0,
@@ -192,7 +201,8 @@ pub admission-settles : (obeys tags keeps : Bool) (request : Request) (grant : �
     new →
     AdmissionMakes obeys tags keeps request grant staged (freed_by close) end asked_old stock_old
     old asked_new stock_new new
-admission-settles obeys tags keeps request grant staged close asked_old stock_old old asked mid asked_new stock_new new end enough settle makes none did =
+admission-settles obeys tags keeps request grant staged close asked_old stock_old old asked mid
+    asked_new stock_new new end enough settle makes none did =
     let file = settle-keeps obeys close asked_old old asked mid settle in (
       settles close asked mid end enough settle none did.0,
       λ entry next.
@@ -206,7 +216,8 @@ pub admission-unsettled : (obeys tags keeps : Bool) (request : Request) (grant :
     Settles obeys failed asked_old old asked_new new → CallMakes [] asked_old old asked_new new →
     AdmissionMakes obeys tags keeps request grant staged None (refused staged) asked_old stock old
     asked_new stock new
-admission-unsettled obeys tags keeps request grant staged asked_old stock old asked_new new enough settle makes =
+admission-unsettled obeys tags keeps request grant staged asked_old stock old asked_new new enough
+    settle makes =
     (unsettled enough settle refl, λ entry next. makes)
 
 pub admission-long : (obeys tags keeps : Bool) (request : Request) (grant : ℕ) (staged : Seens)
@@ -258,9 +269,11 @@ pub mapped-may : {R B : Type 0} {g : _} (words : R → Seen WordStep) (bytes : B
     MapsBlocks tags keeps (span request (view_of old.tracker).long) true asked stock_old
     (state_view words bytes old) behind stock_new (state_view words bytes new) →
     MayCome (view_of old.tracker) (view_of new.tracker) old.ino new.ino request
-mapped-may words bytes old new request tags keeps asked stock_old behind stock_new settled change fits maps =
+mapped-may words bytes old new request tags keeps asked stock_old behind stock_new settled change
+    fits maps =
     let keep = tags-keep tags keeps (span request (view_of old.tracker).long) maps.tries asked
-    stock_old (state_view words bytes old) behind stock_new (state_view words bytes new) maps.each in
+    stock_old (state_view words bytes old) behind stock_new (state_view words bytes new)
+    maps.each in
     let none : (state_view words bytes old).tracker.doubt ≡ None =
     ap (λ d. told_option (told_doubt (seens_of words)) d) settled in
     let cells : first_unmapped (view_of new.tracker).cells (span request (view_of old.tracker).long)
@@ -273,7 +286,8 @@ mapped-may words bytes old new request tags keeps asked stock_old behind stock_n
             (keep.doubt ∙ none);
         change = change;
         fits = subst (λ (n : ℕ). long_after n request ≤ LONGEST_FILE) (sym keep.long) fits;
-        mapped = subst (λ (n : ℕ). first_unmapped (view_of new.tracker).cells (span request n) ≡ None)
+        mapped = subst (λ (n : ℕ). first_unmapped (view_of new.tracker).cells (span request n)
+            ≡ None)
             (sym keep.long) cells;
       };
       ino = keep.ino;
@@ -324,7 +338,8 @@ nothing-settled words bytes old new here no_slots is =
     let slots : doubt_slots (view_of old.tracker).doubt ≡ None =
     none-back (seens_of words) (doubt_slots (view_of old.tracker).doubt)
     (sym (doubt-told (seens_of words) (view_of old.tracker).doubt) ∙ no_slots) in
-    let none : (view_of old.tracker).doubt ≡ None = here-none (view_of old.tracker).doubt here slots in
+    let none : (view_of old.tracker).doubt ≡ None =
+    here-none (view_of old.tracker).doubt here slots in
     file-told words bytes old new
     (file-kept (state_view words bytes old) (state_view words bytes new)
     (state_view words bytes old) is

@@ -1,5 +1,7 @@
 -- The block of a file block comes to be another one, and what the state knows of it.
-use Rattle.std.proofs.Common.{◌≡◌, ◌∙◌, ◌<◌, ◌==◌, ◌||◌, ap, arith, get_or, inl, inr, List, [], ◌∷◌, length, Option, None, Some, refl, set, subst, sym, true, false, zero, suc, ℕ, Bool}
+use Rattle.std.proofs.Common.{◌≡◌, ◌∙◌, ◌<◌, ◌==◌, ◌||◌, ap, arith, get_or, inl, inr, List, [], ◌∷◌}
+use Rattle.std.proofs.Common.{length, Option, None, Some, refl, set, subst, sym, true, false, zero}
+use Rattle.std.proofs.Common.{suc, ℕ, Bool}
 use Rattle.std.proofs.lemmas.Bool.Decides.{nat_tests}
 use Rattle.cfs_file.specs.declared.sizes.TheConstants.{FILE_BLOCKS}
 use Rattle.cfs_pmem.specs.Images.{Seen}
@@ -21,7 +23,8 @@ use Rattle.cfs_tracker.specs.declared.cell.Cell.TheVariants as kinds
 use Rattle.cfs_tracker.specs.Cells.{cell_at, held_in, moving, with_cell}
 use Rattle.cfs_tracker.specs.Follows.{CellStands, Follows}
 use Rattle.cfs_tracker.specs.View.{TrackerView}
-use Rattle.cfs_tracker.proofs.Celling.{cell-beside, cell-here, follows-cell, is_lent_cell, not-lent-cell}
+use Rattle.cfs_tracker.proofs.Celling.{cell-beside, cell-here, follows-cell, is_lent_cell}
+use Rattle.cfs_tracker.proofs.Celling.{not-lent-cell}
 use Rattle.cfs_inode.specs.Stands.{IsAtRest, IsHeld, JobStands, Stands, Together}
 use Rattle.cfs_inode.specs.View.{StateView}
 use Rattle.cfs_inode.specs.Trims.{with_block_cell}

@@ -1,5 +1,6 @@
 -- A job comes back, and what the state knows of its place.
-use Rattle.std.proofs.Common.{◌≡◌, ◌∙◌, ◌<◌, ap, inl, inr, length, length-set, set, suc, zero, List, [], ◌∷◌, Option, None, Some, refl, subst, sym, ℕ, arith}
+use Rattle.std.proofs.Common.{◌≡◌, ◌∙◌, ◌<◌, ap, inl, inr, length, length-set, set, suc, zero, List}
+use Rattle.std.proofs.Common.{[], ◌∷◌, Option, None, Some, refl, subst, sym, ℕ, arith}
 use Rattle.cfs_file.specs.declared.sizes.TheConstants.{FILE_BLOCKS}
 use Rattle.cfs_pmem.specs.Images.{Seen, WordStep}
 use Rattle.cfs_block.specs.BlockImages.{BlockStep}
@@ -20,7 +21,8 @@ use Rattle.cfs_tracker.specs.Follows.{Follows}
 use Rattle.cfs_tracker.specs.View.{TrackerView, entry_at}
 use Rattle.cfs_tracker.proofs.Celling.{cell-beside, cell-here}
 use Rattle.cfs_inode.specs.Backs.{tile_back}
-use Rattle.cfs_inode.specs.Stands.{AllStand, AreHeld, IsAtRest, IsBeside, IsHeld, JobStands, Stands, Together, slots_in}
+use Rattle.cfs_inode.specs.Stands.{AllStand, AreHeld, IsAtRest, IsBeside, IsHeld, JobStands, Stands}
+use Rattle.cfs_inode.specs.Stands.{Together, slots_in}
 use Rattle.cfs_inode.specs.View.{Held, Seens, StateView}
 
 -- ---- the other jobs

@@ -1,10 +1,14 @@
 -- A block at home is taken out, read and put back.
-use Rattle.std.proofs.Common.{◌≡◌, ◌∙◌, ◌+◌, ◌-◌, ◌*◌, ◌/◌, ◌%◌, ◌<◌, ◌≤◌, ◌++◌, ap, arith, drop, false, length-append, if◌then◌else◌, inl, inr, max, nat_lt, rules, get_or, length, List, map, min, None, Ok, Err, OnOk, Result, Some, refl, set, subst, sym, take, true, ℕ, zero, suc, [], ◌∷◌}
+use Rattle.std.proofs.Common.{◌≡◌, ◌∙◌, ◌+◌, ◌-◌, ◌*◌, ◌/◌, ◌%◌, ◌<◌, ◌≤◌, ◌++◌, ap, arith, drop}
+use Rattle.std.proofs.Common.{false, length-append, if◌then◌else◌, inl, inr, max, nat_lt, rules}
+use Rattle.std.proofs.Common.{get_or, length, List, map, min, None, Ok, Err, OnOk, Result, Some}
+use Rattle.std.proofs.Common.{refl, set, subst, sym, take, true, ℕ, zero, suc, [], ◌∷◌}
 use Rattle.std.proofs.lemmas.Bool.{cases_Bool, cases_lt}
 use Rattle.std.proofs.lemmas.Bool.Decides.{nat_tests}
 use borrow.Rule.Slice.PartMut.{put_mid}
 use Rattle.std.proofs.lemmas.List.FromFn.{get_or-map-range_with_len, length-map-range_with_len}
-use Rattle.std.proofs.lemmas.List.{ext_get_or, get_or-drop, get_or-take, length-drop, length-take, places}
+use Rattle.std.proofs.lemmas.List.{ext_get_or, get_or-drop, get_or-take, length-drop, length-take}
+use Rattle.std.proofs.lemmas.List.{places}
 use Rattle.std.proofs.Math.Seq.{map-set_same}
 use Rattle.cfs_file.specs.declared.sizes.TheConstants.{BLOCK_LEN}
 use Rattle.cfs_pmem.specs.Images.{Seen, WordStep}
@@ -18,7 +22,8 @@ use Rattle.cfs_tracker.specs.Cells.{cell_at, held_in, with_cell}
 use Rattle.cfs_tracker.specs.Dispatch.{is_home}
 use Rattle.cfs_tracker.specs.View.{TrackerView, view_of}
 use Rattle.cfs_inode.specs.declared.state.State.{State}
-use Rattle.cfs_inode.specs.Serves.{CellsSeen, byte_in, end_block, home_byte, home_device, stored_byte, stored_from}
+use Rattle.cfs_inode.specs.Serves.{CellsSeen, byte_in, end_block, home_byte, home_device}
+use Rattle.cfs_inode.specs.Serves.{stored_byte, stored_from}
 use Rattle.cfs_inode.specs.View.{StateView, state_view, told_cell}
 use Rattle.cfs_inode.proofs.Serving.{AreFull}
 use Rattle.cfs_inode.proofs.States.{state-told}

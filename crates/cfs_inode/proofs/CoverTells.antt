@@ -1,5 +1,6 @@
 -- What is to be marked next, told of a tracker as something else.
-use Rattle.std.proofs.Common.{◌≡◌, ◌∙◌, ap, inl, inr, List, [], ◌∷◌, map, Option, None, Some, refl, sym, ℕ}
+use Rattle.std.proofs.Common.{◌≡◌, ◌∙◌, ap, inl, inr, List, [], ◌∷◌, map, Option, None, Some, refl}
+use Rattle.std.proofs.Common.{sym, ℕ}
 use Rattle.std.specs.List.{find}
 use Rattle.std.proofs.lemmas.Bool.{cases_Bool}
 use Rattle.cfs_pmem.specs.Images.{Seen, WordStep}
@@ -15,7 +16,8 @@ use Rattle.cfs_tracker.specs.Mark.{is_next_mark, next_mark, next_mark_by}
 use Rattle.cfs_tracker.specs.Reads.{is_live_doing, place_of}
 use Rattle.cfs_tracker.specs.View.{TrackerView, entry_at, view_of}
 use Rattle.cfs_inode.specs.declared.state.State.{State}
-use Rattle.cfs_inode.specs.View.{held_of, seens_of, state_view, told, told_doing, told_entry, told_option}
+use Rattle.cfs_inode.specs.View.{held_of, seens_of, state_view, told, told_doing, told_entry}
+use Rattle.cfs_inode.specs.View.{told_option}
 use Rattle.cfs_inode.proofs.Tells.{at-told}
 
 waits-told : {S T : Type 0} (tell : S → T) (now : Doing S) →
@@ -46,14 +48,15 @@ find-told : {S T : Type 0} (tell : S → T) (reads : List Reading) (later : Pend
     find (is_next_mark reads (told_entry tell later) after) (map (told_entry tell) es)
     ≡ told_option (told_entry tell) (find (is_next_mark reads later after) es)
 find-told tell reads later after [] = refl
-find-told {S} {T} tell reads later after (e ∷ es) = elim (cases_Bool (is_next_mark reads later after e)) [
-  | inl hit ↦
-      let own = test-told tell reads later after e ∙ hit in
-      rw (own, hit) refl
-  | inr miss ↦
-      let other = test-told tell reads later after e ∙ miss in
-      rw (other, miss) (find-told tell reads later after es)
-]
+find-told {S} {T} tell reads later after (e ∷ es) =
+    elim (cases_Bool (is_next_mark reads later after e)) [
+      | inl hit ↦
+          let own = test-told tell reads later after e ∙ hit in
+          rw (own, hit) refl
+      | inr miss ↦
+          let other = test-told tell reads later after e ∙ miss in
+          rw (other, miss) (find-told tell reads later after es)
+    ]
 
 place-told : {S T : Type 0} (tell : S → T) (entry : Option (Pending S)) →
     place_of (told_option (told_entry tell) entry) ≡ place_of entry

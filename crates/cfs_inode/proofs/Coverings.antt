@@ -1,5 +1,7 @@
 -- All changes that one covers are marked.
-use Rattle.std.proofs.Common.{◌≡◌, ◌∙◌, ◌⊎◌, ◌≤◌, ◌<◌, ◌+◌, ◌++◌, ◌&&◌, ap, arith, cond, filter, inl, inr, List, [], ◌∷◌, length, map, Option, None, Some, refl, subst, sym, true, false, ℕ, Bool}
+use Rattle.std.proofs.Common.{◌≡◌, ◌∙◌, ◌⊎◌, ◌≤◌, ◌<◌, ◌+◌, ◌++◌, ◌&&◌, ap, arith, cond, filter}
+use Rattle.std.proofs.Common.{inl, inr, List, [], ◌∷◌, length, map, Option, None, Some, refl, subst}
+use Rattle.std.proofs.Common.{sym, true, false, ℕ, Bool}
 use Rattle.std.specs.Prelude.{nat_lt}
 use Rattle.std.specs.List.{find}
 use Rattle.std.proofs.lemmas.Bool.{cases_Bool}
@@ -21,7 +23,8 @@ use Rattle.cfs_tracker.proofs.Entries.{above-find, at-with, found-place, found-t
 use Rattle.cfs_tracker.proofs.Named.{later-there, named-marks}
 use Rattle.cfs_inode.specs.declared.mark_answer.MarkAnswer.{MarkAnswer}
 use Rattle.cfs_inode.specs.declared.mark_answer.MarkAnswer.TheVariants as marks
-use Rattle.cfs_inode.specs.Covering.{MarksCovered, MarksEach, Try, covered_behind, covered_by, is_marked, places_tried, tried_events}
+use Rattle.cfs_inode.specs.Covering.{MarksCovered, MarksEach, Try, covered_behind, covered_by}
+use Rattle.cfs_inode.specs.Covering.{is_marked, places_tried, tried_events}
 use Rattle.cfs_inode.specs.Makes.{CallMakes, Makes}
 use Rattle.cfs_inode.specs.Marking.{MarkMakes, Marks, mark_events}
 use Rattle.cfs_inode.specs.Stands.{Together}
@@ -155,14 +158,15 @@ marked-more tries try =
 
 -- ---- what is named
 
-pub record IsNamed (view : TrackerView Held Seens (Seen BlockStep)) (by after place : ℕ) : Type 0 where
-  pub later : Pending Held
-  pub own : Pending Held
-  pub there : entry_at view.entries by ≡ Some later
-  pub found : find (is_next_mark view.reads later after) view.entries ≡ Some own
-  pub at : own.place ≡ place
-  pub above : after < place
-  pub below : place < by
+pub record IsNamed (view : TrackerView Held Seens (Seen BlockStep)) (by after place : ℕ) : Type 0
+  where
+    pub later : Pending Held
+    pub own : Pending Held
+    pub there : entry_at view.entries by ≡ Some later
+    pub found : find (is_next_mark view.reads later after) view.entries ≡ Some own
+    pub at : own.place ≡ place
+    pub above : after < place
+    pub below : place < by
 
 pub named-is : (view : TrackerView Held Seens (Seen BlockStep)) (by after place : ℕ) →
     next_mark view by after ≡ Some place → IsNamed view by after place
@@ -341,7 +345,8 @@ turned old now new by after tries try named keeps is =
       all =
           ap (λ qs. qs ++ covered_behind new try.place (entry_at new.tracker.entries by))
           (map-append (λ (t : Try). t.place) tries (try ∷ []))
-          ∙ (ap (λ qs. (ps ++ try.place ∷ []) ++ qs) (behind-kept now new by after try.place i keeps)
+          ∙ (ap (λ qs. (ps ++ try.place ∷ []) ++ qs)
+          (behind-kept now new by after try.place i keeps)
           ∙ (append-both ps (try.place ∷ []) rest
           ∙ (ap (λ qs. ps ++ qs) (sym (behind-named now by after try.place i is.rise))
           ∙ is.all)));
@@ -398,7 +403,8 @@ pub marked-next : (obeys : Bool) (by after count place : ℕ) (answer : MarkAnsw
     Marks obeys place answer asked now asked_new new →
     MarkMakes place by answer asked now asked_new new →
     HasMarked obeys by place (count + cond (is_marked answer) 1 0) asked_old old asked_new new
-marked-next obeys by after count place answer asked_old old asked now asked_new new has named mark makes =
+marked-next obeys by after count place answer asked_old old asked now asked_new new has named mark
+    makes =
     let try : Try = record { place = place; answer = answer } in
     let keeps = mark-keeps obeys place answer asked now asked_new new mark in
     let own = named-makes place by after answer asked now asked_new new named makes in

@@ -41,7 +41,8 @@ use Rattle.cfs_tracker.proofs.Putting.{track-of}
 use Rattle.cfs_tracker.proofs.Tracks.{in-log, track-here}
 use Rattle.cfs_inode.specs.Jobs.{AreTile, IsGiven, with_dispatched}
 use Rattle.cfs_inode.specs.Makes.{AnyBetween, Makes}
-use Rattle.cfs_inode.specs.Stands.{AllStand, IsAtRest, IsBeside, IsHeld, JobStands, Stands, Together, slots_in}
+use Rattle.cfs_inode.specs.Stands.{AllStand, IsAtRest, IsBeside, IsHeld, JobStands, Stands}
+use Rattle.cfs_inode.specs.Stands.{Together, slots_in}
 use Rattle.cfs_inode.specs.View.{Held, StateView}
 use Rattle.cfs_inode.proofs.Goods.{good}
 use Rattle.cfs_inode.proofs.Replacing.{all-go}

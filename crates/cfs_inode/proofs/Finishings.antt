@@ -1,12 +1,14 @@
 -- A job ends.
-use Rattle.std.proofs.Common.{◌≡◌, ◌∙◌, ◌+◌, ◌<◌, ◌≤◌, ap, arith, inl, length, List, [], ◌∷◌, None, Some, Ok, Err, refl, subst, sym, true, false, ℕ, Bool}
+use Rattle.std.proofs.Common.{◌≡◌, ◌∙◌, ◌+◌, ◌<◌, ◌≤◌, ap, arith, inl, length, List, [], ◌∷◌, None}
+use Rattle.std.proofs.Common.{Some, Ok, Err, refl, subst, sym, true, false, ℕ, Bool}
 use Rattle.cfs_core.specs.declared.event.End.{End}
 use Rattle.cfs_core.specs.declared.event.End.TheVariants as ends
 use Rattle.cfs_core.specs.declared.event.Event.TheVariants as events
 use Rattle.cfs_core.specs.declared.event.SizeEnd.TheVariants as sizes
 use Rattle.cfs_core.specs.declared.flag.Flag.TheVariants.{Unsure}
 use Rattle.cfs_core.specs.declared.inode_core.Core.{Core}
-use Rattle.cfs_core.specs.After.{after, more_to_come, put_back as track_back, retired as track_retired}
+use Rattle.cfs_core.specs.After.{after, more_to_come, put_back as track_back}
+use Rattle.cfs_core.specs.After.{retired as track_retired}
 use Rattle.cfs_core.specs.Words.{sized, track}
 use Rattle.cfs_core.proofs.Marks.{track_beside}
 use Rattle.cfs_pmem.specs.declared.trace.Asked.{Asked}
@@ -27,21 +29,26 @@ use Rattle.cfs_medium.proofs.SizeEvents.{sizes-show}
 use Rattle.cfs_medium.proofs.Worlds.{at_other, at_place}
 use Rattle.cfs_tracker.specs.declared.doing.Doing.TheVariants as doings
 use Rattle.cfs_tracker.specs.declared.pending.Pending.{Pending}
-use Rattle.cfs_tracker.specs.Finish.{applied_at, applied_entry, as_far, more_entry, number_of, size_after}
+use Rattle.cfs_tracker.specs.Finish.{applied_at, applied_entry, as_far, more_entry, number_of}
+use Rattle.cfs_tracker.specs.Finish.{size_after}
 use Rattle.cfs_tracker.specs.Follows.{gate_for}
 use Rattle.cfs_tracker.specs.View.{doing}
 use Rattle.cfs_tracker.proofs.Entries.{at-with, at-without, here-without}
-use Rattle.cfs_tracker.proofs.Finishing.{follows-applied, follows-back, follows-more, follows-retired, follows-unsure, may-size}
+use Rattle.cfs_tracker.proofs.Finishing.{follows-applied, follows-back, follows-more}
+use Rattle.cfs_tracker.proofs.Finishing.{follows-retired, follows-unsure, may-size}
 use Rattle.cfs_inode.specs.declared.size_answer.SizeAnswer.TheVariants as went
 use Rattle.cfs_inode.specs.Backs.{EndMakes, HasOut, held_back, tile_back, with_put_back}
-use Rattle.cfs_inode.specs.Finishing.{Closed, FailsAt, Failing, IsAllDone, SizesFor, closing, end_at, keeping, with_applied, with_more, with_retired, with_unsure, writing}
+use Rattle.cfs_inode.specs.Finishing.{Closed, FailsAt, Failing, IsAllDone, SizesFor, closing}
+use Rattle.cfs_inode.specs.Finishing.{end_at, keeping, with_applied, with_more, with_retired}
+use Rattle.cfs_inode.specs.Finishing.{with_unsure, writing}
 use Rattle.cfs_inode.specs.Makes.{AnyBetween}
 use Rattle.cfs_inode.specs.Stands.{JobStands, Stands}
 use Rattle.cfs_inode.specs.View.{Held, Seens, StateView}
 use Rattle.cfs_inode.proofs.Comings.{returned}
 use Rattle.cfs_inode.proofs.Goods.{good}
 use Rattle.cfs_inode.proofs.PutBacks.{IsComing, back-shows, coming, waits-again}
-use Rattle.cfs_inode.proofs.Sizings.{IsSized, is-sized, runs-through, unkept-shows, unwritten-shows, wanted-is}
+use Rattle.cfs_inode.proofs.Sizings.{IsSized, is-sized, runs-through, unkept-shows, unwritten-shows}
+use Rattle.cfs_inode.proofs.Sizings.{wanted-is}
 
 -- what recovers the file before the event is a moment of it
 at-start : (ino n : ℕ) (core : Core) (place : ℕ) (end : End) (remains : Remains) →
@@ -180,7 +187,8 @@ unkept-made old job obeys asked_old asked_new size out some sets = λ jobs core 
     (tile_back job.second) out stands.follows in
     let end = as_far old.tracker place sizes.Either in
     let now : Core = after core (events.Finish place end) in
-    let before : Core = after core (events.Finish place (as_far old.tracker place sizes.AsBefore)) in
+    let before : Core =
+    after core (events.Finish place (as_far old.tracker place sizes.AsBefore)) in
     let wanted = sized core.size (track core.tracks place).span in
     let right : size_after old.tracker place ≡ wanted = wanted-is old job core world stands comes in
     let word : SetsWord {T = Unit {0}} {E = Unit {0}} obeys 0 wanted (Err tt) asked_old world.size

@@ -1,5 +1,6 @@
 -- What is known of the job that a state gives out.
-use Rattle.std.proofs.Common.{◌≡◌, ◌∙◌, ◌&&◌, ap, inl, inr, length, List, map, nat_lt, Option, None, Some, refl, subst, sym, true, false, ℕ}
+use Rattle.std.proofs.Common.{◌≡◌, ◌∙◌, ◌&&◌, ap, inl, inr, length, List, map, nat_lt, Option, None}
+use Rattle.std.proofs.Common.{Some, refl, subst, sym, true, false, ℕ}
 use Rattle.std.specs.Prelude.{is_some}
 use Rattle.std.specs.List.{range_with_len}
 use Rattle.std.proofs.lemmas.Bool.{cases_Bool}
@@ -27,7 +28,9 @@ use Rattle.cfs_tracker.specs.declared.tracker.Tracker.{Tracker}
 use Rattle.cfs_tracker.specs.Admit.{is_mapped}
 use Rattle.cfs_tracker.specs.Cells.{cell_at}
 use Rattle.cfs_tracker.specs.declared.step.Step.TheVariants.{Takes}
-use Rattle.cfs_tracker.specs.Dispatch.{dispatched, first_cell, is_home, is_wanted_cell, next_cell, second_cell, step_at, tile_at, tile_in, waiting_in, waiting_slots}
+use Rattle.cfs_tracker.specs.Dispatch.{dispatched, first_cell, is_home, is_wanted_cell, next_cell}
+use Rattle.cfs_tracker.specs.Dispatch.{second_cell, step_at, tile_at, tile_in, waiting_in}
+use Rattle.cfs_tracker.specs.Dispatch.{waiting_slots}
 use Rattle.cfs_tracker.specs.Finish.{span_in}
 use Rattle.cfs_tracker.specs.View.{entry_at, view_of}
 use Rattle.cfs_tracker.proofs.Dispatching.{AreBlocks, IsTaking, ready-blocks, taking}
@@ -35,9 +38,11 @@ use Rattle.cfs_tracker.proofs.Entries.{found-test}
 use Rattle.cfs_inode.specs.declared.state.State.{State}
 use Rattle.cfs_inode.specs.Dispatching.{IsReadyAt, lent_of}
 use Rattle.cfs_inode.specs.Jobs.{AreTile, IsGiven, with_dispatched}
-use Rattle.cfs_inode.specs.View.{Held, StateView, held_of, seens_of, state_view, told_cell, told_option}
+use Rattle.cfs_inode.specs.View.{Held, StateView, held_of, seens_of, state_view, told_cell}
+use Rattle.cfs_inode.specs.View.{told_option}
 use Rattle.cfs_inode.proofs.EndTells.{span-told}
-use Rattle.cfs_inode.proofs.JobTells.{all-are-still, cell-told, slots-told, step-told, told-dispatched}
+use Rattle.cfs_inode.proofs.JobTells.{all-are-still, cell-told, slots-told, step-told}
+use Rattle.cfs_inode.proofs.JobTells.{told-dispatched}
 use Rattle.cfs_inode.proofs.States.{state-told}
 use Rattle.cfs_inode.proofs.Tells.{at-told}
 

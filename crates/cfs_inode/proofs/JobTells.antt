@@ -1,5 +1,6 @@
 -- What becomes of a change is told of a tracker as it is.
-use Rattle.std.proofs.Common.{◌≡◌, ◌∙◌, ◌&&◌, ap, cond, inl, inr, List, [], ◌∷◌, length, map, Option, None, Some, refl, set, suc, true, false, zero, ℕ}
+use Rattle.std.proofs.Common.{◌≡◌, ◌∙◌, ◌&&◌, ap, cond, inl, inr, List, [], ◌∷◌, length, map}
+use Rattle.std.proofs.Common.{Option, None, Some, refl, set, suc, true, false, zero, ℕ}
 use Rattle.std.specs.List.{find, list_all, range_with_len}
 use Rattle.std.proofs.Math.ListN.{get_or-map}
 use Rattle.std.proofs.lemmas.Bool.{cases_Bool}
@@ -14,7 +15,11 @@ use Rattle.cfs_tracker.specs.declared.step.Step.{Step}
 use Rattle.cfs_tracker.specs.declared.step.Step.TheVariants.{NotWaiting}
 use Rattle.cfs_tracker.specs.Admit.{is_mapped}
 use Rattle.cfs_tracker.specs.Cells.{cell_at}
-use Rattle.cfs_tracker.specs.Dispatch.{ahead, dispatched, first_cell, holder, is_ahead, is_read_ahead, are_still, is_still, is_waiting_doing, is_wanted_cell, lend, lent_to, lesser, next_cell, read_place, second_cell, step_at, step_behind, step_of, step_of_blocks, waiting_in, waiting_slots}
+use Rattle.cfs_tracker.specs.Dispatch.{ahead, dispatched, first_cell, holder, is_ahead}
+use Rattle.cfs_tracker.specs.Dispatch.{is_read_ahead, are_still, is_still, is_waiting_doing}
+use Rattle.cfs_tracker.specs.Dispatch.{is_wanted_cell, lend, lent_to, lesser, next_cell, read_place}
+use Rattle.cfs_tracker.specs.Dispatch.{second_cell, step_at, step_behind, step_of, step_of_blocks}
+use Rattle.cfs_tracker.specs.Dispatch.{waiting_in, waiting_slots}
 use Rattle.cfs_tracker.specs.Reads.{is_live_doing, place_of}
 use Rattle.cfs_tracker.specs.View.{TrackerView, doing, entry_at, with_entry}
 use Rattle.cfs_tracker.proofs.Dispatching.{find-alike, still-held}

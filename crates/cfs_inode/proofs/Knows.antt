@@ -1,5 +1,6 @@
 -- What calls about jobs ask for is known where a state stands.
-use Rattle.std.proofs.Common.{◌≡◌, ◌∙◌, ◌+◌, ◌-◌, ◌==◌, ap, arith, length, List, [], ◌∷◌, map, Option, None, Some, refl, subst, sym, true, false, ℕ, Bool}
+use Rattle.std.proofs.Common.{◌≡◌, ◌∙◌, ◌+◌, ◌-◌, ◌==◌, ap, arith, length, List, [], ◌∷◌, map}
+use Rattle.std.proofs.Common.{Option, None, Some, refl, subst, sym, true, false, ℕ, Bool}
 use Rattle.std.specs.Prelude.{option_map, slice_get}
 use Rattle.std.proofs.lemmas.Bool.Decides.{nat_tests}
 use Rattle.cfs_file.specs.declared.entry.Entry.{Entry}
@@ -57,15 +58,18 @@ use Rattle.cfs_core_laws.proofs.Whole.{whole}
 
 out-doing : (now : Doing Held) (s : State) (j : Job) → IsDoing now s → s ≡ states.Out j →
     blocks_in now ≡ Some (block_of j.first, block_of j.second)
-out-doing (doings.Waiting slots) s j is out = (let clash : states.Waiting ≡ states.Out j = sym is ∙ out in cc)
-out-doing doings.Marking s j is out = (let clash : states.Waiting ≡ states.Out j = sym is ∙ out in cc)
+out-doing (doings.Waiting slots) s j is out =
+    (let clash : states.Waiting ≡ states.Out j = sym is ∙ out in cc)
+out-doing doings.Marking s j is out =
+    (let clash : states.Waiting ≡ states.Out j = sym is ∙ out in cc)
 out-doing (doings.Out first second) s j is out =
     let both : states.Out is.job ≡ states.Out j = sym is.out ∙ out in
     let same : is.job ≡ j = cc in
     let own : Some (first, second) ≡ Some (block_of is.job.first, block_of is.job.second) =
     rw (is.first_is, is.second_is) refl in
     own ∙ ap (λ (x : Job). Some (block_of x.first, block_of x.second)) same
-out-doing (doings.Covered slots) s j is out = (let clash : states.Noop ≡ states.Out j = sym is ∙ out in cc)
+out-doing (doings.Covered slots) s j is out =
+    (let clash : states.Noop ≡ states.Out j = sym is ∙ out in cc)
 out-doing doings.Closing s j is out = (let clash : states.Noop ≡ states.Out j = sym is ∙ out in cc)
 
 out-at : (entry : Option (Pending Held)) (read : Option Reading) (t : Track) (j : Job) →

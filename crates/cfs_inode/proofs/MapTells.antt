@@ -1,5 +1,6 @@
 -- Which blocks are mapped, told of a state.
-use Rattle.std.proofs.Common.{◌≡◌, ◌∙◌, ◌≤◌, ap, arith, cond, filter, List, [], ◌∷◌, length, map, Option, refl, sym, ℕ, Bool}
+use Rattle.std.proofs.Common.{◌≡◌, ◌∙◌, ◌≤◌, ap, arith, cond, filter, List, [], ◌∷◌, length, map}
+use Rattle.std.proofs.Common.{Option, refl, sym, ℕ, Bool}
 use Rattle.cfs_file.specs.declared.span.Span.{Span}
 use Rattle.cfs_pmem.specs.Images.{Seen, WordStep}
 use Rattle.cfs_block.specs.BlockImages.{BlockStep}

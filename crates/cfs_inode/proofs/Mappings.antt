@@ -1,5 +1,7 @@
 -- All blocks that a request needs are mapped.
-use Rattle.std.proofs.Common.{◌≡◌, ◌∙◌, ◌≤◌, ◌<◌, ◌+◌, ◌-◌, ◌/◌, ◌&&◌, ◌++◌, ap, arith, cond, filter, inl, inr, List, [], ◌∷◌, length, not, Option, None, Some, refl, set, subst, sym, true, false, zero, suc, ℕ, Bool, length-set}
+use Rattle.std.proofs.Common.{◌≡◌, ◌∙◌, ◌≤◌, ◌<◌, ◌+◌, ◌-◌, ◌/◌, ◌&&◌, ◌++◌, ap, arith, cond}
+use Rattle.std.proofs.Common.{filter, inl, inr, List, [], ◌∷◌, length, not, Option, None, Some}
+use Rattle.std.proofs.Common.{refl, set, subst, sym, true, false, zero, suc, ℕ, Bool, length-set}
 use Rattle.std.specs.Prelude.{nat_lt}
 use Rattle.std.specs.List.{find, list_all, range_with_len}
 use Rattle.std.proofs.lemmas.Bool.{cases_Bool}
@@ -55,32 +57,37 @@ tags-more : (obeys keeps : Bool) (span : Span) (tries : List Tagged) (try : Tagg
     first_unmapped mid.tracker.cells span ≡ Some try.block →
     Tags obeys keeps try.block try.kept asked stock mid asked_new stock_new new →
     TagsEach obeys keeps span (tries ++ try ∷ []) asked_old stock_old old asked_new stock_new new
-tags-more obeys keeps span [] try asked_old stock_old old asked stock mid asked_new stock_new new each first tag = (
-  asked_new,
-  stock_new,
-  new,
-  subst (λ (s : StateView). first_unmapped s.tracker.cells span ≡ Some try.block) each.1.1 first,
-  (
-    subst (λ (a : List Asked). Tags obeys keeps try.block try.kept a stock_old old asked_new
-        stock_new new) each.0
-        (subst (λ (b : Blocks). Tags obeys keeps try.block try.kept asked b old asked_new stock_new
-        new) each.1.0
-        (subst (λ (s : StateView). Tags obeys keeps try.block try.kept asked stock s asked_new
-        stock_new new) each.1.1 tag)),
-    (refl, (refl, refl)),
-  ),
-)
-tags-more obeys keeps span (one ∷ tries) try asked_old stock_old old asked stock mid asked_new stock_new new each first tag = (
-  each.0,
-  each.1,
-  each.2,
-  each.3,
-  (
-    each.4.0,
-    tags-more obeys keeps span tries try each.0 each.1 each.2 asked stock mid asked_new stock_new
-        new each.4.1 first tag,
-  ),
-)
+tags-more obeys keeps span [] try asked_old stock_old old asked stock mid asked_new stock_new new
+    each first tag = (
+      asked_new,
+      stock_new,
+      new,
+      subst (λ (s : StateView). first_unmapped s.tracker.cells span ≡ Some try.block) each.1.1
+          first,
+      (
+        subst (λ (a : List Asked). Tags obeys keeps try.block try.kept a stock_old old asked_new
+            stock_new new) each.0
+            (subst (λ (b : Blocks). Tags obeys keeps try.block try.kept asked b old asked_new
+            stock_new
+            new) each.1.0
+            (subst (λ (s : StateView). Tags obeys keeps try.block try.kept asked stock s asked_new
+            stock_new new) each.1.1 tag)),
+        (refl, (refl, refl)),
+      ),
+    )
+tags-more obeys keeps span (one ∷ tries) try asked_old stock_old old asked stock mid asked_new
+    stock_new new each first tag = (
+      each.0,
+      each.1,
+      each.2,
+      each.3,
+      (
+        each.4.0,
+        tags-more obeys keeps span tries try each.0 each.1 each.2 asked stock mid asked_new
+            stock_new
+            new each.4.1 first tag,
+      ),
+    )
 
 all-more : (tries : List Tagged) (try : Tagged) → list_all (λ t. t.kept) tries ≡ true →
     list_all (λ t. t.kept) (tries ++ try ∷ []) ≡ try.kept
@@ -118,7 +125,8 @@ makes-more : (obeys keeps : Bool) (span : Span) (block : ℕ) (kept : Bool)
     TagMakes block kept asked now asked_new new →
     CallMakes (tag_events (has.tries ++ record { block = block; kept = kept } ∷ [])) asked_old old
     asked_new new
-makes-more obeys keeps span block kept asked_old stock_old old asked stock now asked_new new has makes =
+makes-more obeys keeps span block kept asked_old stock_old old asked stock now asked_new new has
+    makes =
     let try : Tagged = record { block = block; kept = kept } in
     subst (λ es. CallMakes es asked_old old asked_new new)
     (sym (map-append (λ (t : Tagged). events.Tag t.block t.kept) has.tries (try ∷ [])))
@@ -134,7 +142,8 @@ pub mapped-next : (obeys keeps : Bool) (span : Span) (block : ℕ) (asked_old : 
     Tags obeys keeps block true asked stock now asked_new stock_new new →
     TagMakes block true asked now asked_new new →
     HasMapped obeys keeps span asked_old stock_old old asked_new stock_new new
-mapped-next obeys keeps span block asked_old stock_old old asked stock now asked_new stock_new new has first tag makes =
+mapped-next obeys keeps span block asked_old stock_old old asked stock now asked_new stock_new new
+    has first tag makes =
     let try : Tagged = record { block = block; kept = true } in
     record {
       tries = has.tries ++ try ∷ [];
@@ -153,7 +162,8 @@ pub mapped-failed : (obeys keeps : Bool) (span : Span) (block : ℕ) (asked_old 
     Tags obeys keeps block false asked stock now asked_new stock_new new →
     TagMakes block false asked now asked_new new →
     MapsBlocks obeys keeps span false asked_old stock_old old asked_new stock_new new
-mapped-failed obeys keeps span block asked_old stock_old old asked stock now asked_new stock_new new has first tag makes =
+mapped-failed obeys keeps span block asked_old stock_old old asked stock now asked_new stock_new new
+    has first tag makes =
     let try : Tagged = record { block = block; kept = false } in
     record {
       tries = has.tries ++ try ∷ [];
@@ -360,7 +370,8 @@ stock-left : (cells : List (Cell (Seen BlockStep))) (block : ℕ) (home now : Se
     block < length cells → first_unmapped cells span ≡ Some block →
     is_mapped (cell_at cells block) ≡ false → bare_needed cells span ≤ length stock_old →
     bare_needed (set cells block (tagged_cell now true)) span ≤ length stock_new
-stock-left cells block home now span stock_old stock_new (Some x) is taken less first unmapped stocked =
+stock-left cells block home now span stock_old stock_new (Some x) is taken less first unmapped
+    stocked =
     let same : length stock_new ≡ length stock_old = ap length taken.1 in
     omega (
       arith,
@@ -406,7 +417,8 @@ pub mapping-next : (obeys keeps : Bool) (span : Span) (block : ℕ) (asked_old :
     Tags obeys keeps block true asked stock now asked_new stock_new new →
     TagMakes block true asked now asked_new new →
     IsMapping obeys keeps span asked_old stock_old old asked_new stock_new new
-mapping-next obeys keeps span block asked_old stock_old old asked stock now asked_new stock_new new is first less tag makes =
+mapping-next obeys keeps span block asked_old stock_old old asked stock now asked_new stock_new new
+    is first less tag makes =
     let cells : new.tracker.cells ≡ set now.tracker.cells block (tagged_cell tag.now true) =
     ap (λ (s : StateView). s.tracker.cells) tag.new_is in
     let inside : block < length now.tracker.cells = omega (arith, less, is.many) in

@@ -1,5 +1,6 @@
 -- The marking of a change, told of a tracker as something else.
-use Rattle.std.proofs.Common.{◌≡◌, ◌∙◌, ap, List, ◌∷◌, map, Option, None, Some, refl, sym, true, false, ℕ, Bool}
+use Rattle.std.proofs.Common.{◌≡◌, ◌∙◌, ap, List, ◌∷◌, map, Option, None, Some, refl, sym, true}
+use Rattle.std.proofs.Common.{false, ℕ, Bool}
 use Rattle.cfs_tracker.specs.declared.doing.Doing.{Doing}
 use Rattle.cfs_tracker.specs.declared.doing.Doing.TheVariants as doings
 use Rattle.cfs_tracker.specs.declared.pending.Pending.{Pending}
@@ -15,7 +16,8 @@ use Rattle.cfs_slot.specs.Reads.{regions_of}
 use Rattle.cfs_slot.specs.Regions.{of_live, place_of, tails_of_live}
 use Rattle.cfs_inode.specs.declared.state.State.{State}
 use Rattle.cfs_inode.specs.Marking.{waiting_at, with_marked}
-use Rattle.cfs_inode.specs.View.{Held, held_of, seens_of, state_view, told, told_doing, told_entry, told_option}
+use Rattle.cfs_inode.specs.View.{Held, held_of, seens_of, state_view, told, told_doing, told_entry}
+use Rattle.cfs_inode.specs.View.{told_option}
 use Rattle.cfs_inode.proofs.States.{state-told}
 use Rattle.cfs_inode.proofs.Tells.{at-told, with-told, with-with}
 

@@ -1,5 +1,6 @@
 -- A waiting change is marked as a no-op.
-use Rattle.std.proofs.Common.{◌≡◌, ◌∙◌, ◌≤◌, ◌<◌, ◌+◌, ap, arith, inl, inr, List, [], ◌∷◌, length, Option, None, Some, Ok, Err, refl, subst, sym, true, false, ℕ, Bool}
+use Rattle.std.proofs.Common.{◌≡◌, ◌∙◌, ◌≤◌, ◌<◌, ◌+◌, ap, arith, inl, inr, List, [], ◌∷◌, length}
+use Rattle.std.proofs.Common.{Option, None, Some, Ok, Err, refl, subst, sym, true, false, ℕ, Bool}
 use Rattle.std.specs.Prelude.{option_map}
 use Rattle.cfs_core.specs.declared.event.Event.TheVariants as events
 use Rattle.cfs_core.specs.declared.flag.Flag.TheVariants.{Off}
@@ -132,7 +133,8 @@ mark-leads : (old : StateView) (n place by : ℕ) (held : Held) (kept : Bool) (c
     Leads old.ino n place (after core (events.Mark place by false))
     (after core (events.Mark place by true)) (after core (events.Mark place by false)) world now
     tails (answer_for kept) asked_old asked_new
-mark-leads old n place by held kept core world obeys asked_old asked_new head now tails h marks is some sets stands bound =
+mark-leads old n place by held kept core world obeys asked_old asked_new head now tails h marks is
+    some sets stands bound =
     let there = waiting-there (entry_at old.tracker.entries place) held h in
     let here = stands.slots place there.0 held there.1 (rw there.2 refl) in
     let waits = waiting-is old core world place held h stands in

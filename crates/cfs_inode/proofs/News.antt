@@ -1,5 +1,7 @@
 -- A state of a file of which nothing is pending stands for the cores of that file.
-use Rattle.std.proofs.Common.{◌≡◌, ◌∙◌, ◌+◌, ◌-◌, ◌*◌, ◌<◌, ◌==◌, ◌++◌, ap, arith, inl, inr, List, [], ◌∷◌, map, length, get_or, set, replicate, Option, None, Some, refl, subst, sym, true, false, ℕ, zero, suc}
+use Rattle.std.proofs.Common.{◌≡◌, ◌∙◌, ◌+◌, ◌-◌, ◌*◌, ◌<◌, ◌==◌, ◌++◌, ap, arith, inl, inr, List}
+use Rattle.std.proofs.Common.{[], ◌∷◌, map, length, get_or, set, replicate, Option, None, Some}
+use Rattle.std.proofs.Common.{refl, subst, sym, true, false, ℕ, zero, suc}
 use Rattle.std.specs.Prelude.{is_some}
 use Rattle.std.proofs.lemmas.Bool.{cases_Bool}
 use Rattle.std.proofs.lemmas.Bool.Decides.{nat_tests}
@@ -20,7 +22,8 @@ use Rattle.cfs_core.specs.Medium.{is_loose, is_size}
 use Rattle.cfs_core.specs.Words.{blank, flag_of, is_off, track}
 use Rattle.cfs_core.proofs.Freshly.{fresh-empty}
 use Rattle.cfs_core.proofs.Order.{same_or_not, track_is}
-use Rattle.cfs_medium.specs.Shows.{BlockShown, Holding, Shows, SlotFits, SlotsShown, holding, is_for}
+use Rattle.cfs_medium.specs.Shows.{BlockShown, Holding, Shows, SlotFits, SlotsShown, holding}
+use Rattle.cfs_medium.specs.Shows.{is_for}
 use Rattle.cfs_medium.specs.Store.{tag_of}
 use Rattle.cfs_tracker.specs.declared.cell.Cell.{Cell}
 use Rattle.cfs_slot.specs.declared.doubt.Doubt.{Doubt}
@@ -33,7 +36,8 @@ use Rattle.cfs_tracker.specs.New.{stored_view}
 use Rattle.cfs_tracker.specs.View.{TrackerView, view_of}
 use Rattle.cfs_tracker.proofs.Loading.{follows-fresh}
 use Rattle.cfs_inode.specs.declared.mapped.Mapped.{Mapped}
-use Rattle.cfs_inode.specs.New.{AreMapped, HasFile, IsStored, MappedSeen, StandsFor, brought, seen_for, stored_state, stored_world, told_mapped, with_homes}
+use Rattle.cfs_inode.specs.New.{AreMapped, HasFile, IsStored, MappedSeen, StandsFor, brought}
+use Rattle.cfs_inode.specs.New.{seen_for, stored_state, stored_world, told_mapped, with_homes}
 use Rattle.cfs_inode.specs.Stands.{IsAtRest}
 use Rattle.cfs_inode.specs.View.{Held, Seens, held_of, seens_of, state_view, told, told_cell}
 

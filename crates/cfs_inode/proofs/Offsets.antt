@@ -1,5 +1,6 @@
 -- The offset of a staged append is set.
-use Rattle.std.proofs.Common.{◌≡◌, ◌∙◌, ◌≤◌, ◌+◌, ap, arith, inl, inr, List, [], ◌∷◌, length, None, Some, refl, set, sym, true, false, suc, ℕ, Bool}
+use Rattle.std.proofs.Common.{◌≡◌, ◌∙◌, ◌≤◌, ◌+◌, ap, arith, inl, inr, List, [], ◌∷◌, length, None}
+use Rattle.std.proofs.Common.{Some, refl, set, sym, true, false, suc, ℕ, Bool}
 use Rattle.cfs_core.specs.declared.flag.Flag.{Flag}
 use Rattle.cfs_core.specs.declared.flag.Flag.TheVariants.{Off}
 use Rattle.cfs_core.specs.declared.track.Track.{Track}
@@ -87,7 +88,8 @@ offset-made old head now tails at word obeys result asked_old asked_new settled 
             free = ap (λ (t : Track). is_out t.state) free.is_blank;
             tracks = λ q apart. refl;
             entries = λ q apart. refl;
-            here = λ entry held there has. (let clash : None ≡ Some entry = sym none.0 ∙ there in cc);
+            here = λ entry held there has.
+                (let clash : None ≡ Some entry = sym none.0 ∙ there in cc);
             doubt = λ doubt slots is has.
                 (let clash : None ≡ Some doubt = sym settled ∙ is in cc);
           }) come.together;

@@ -1,5 +1,6 @@
 -- The offset of a staged append.
-use Rattle.std.proofs.Common.{◌≡◌, ◌∙◌, ◌≤◌, ◌+◌, ap, arith, List, [], ◌∷◌, length, Ok, Err, refl, sym, true, ℕ, Bool, get_or-set_other}
+use Rattle.std.proofs.Common.{◌≡◌, ◌∙◌, ◌≤◌, ◌+◌, ap, arith, List, [], ◌∷◌, length, Ok, Err, refl}
+use Rattle.std.proofs.Common.{sym, true, ℕ, Bool, get_or-set_other}
 use Rattle.std.specs.Prelude.{nat_le, nat_lt}
 use Rattle.std.proofs.lemmas.Bool.Decides.{nat_tests}
 use Rattle.cfs_file.specs.declared.request.Request.{Request}
@@ -30,7 +31,8 @@ placed-append bytes long offset was now change is set =
     (both (nat_le 1 (length bytes)) (nat_le (length bytes) LONGEST_WRITE) change).0 in
     let some : 1 ≤ length bytes = grind (arith, nat_tests) in
     let up : nat_lt long (long + length bytes) ≡ true = grind (arith, nat_tests) in
-    let range : between long (long + length bytes) ≡ Range long (long + length bytes) = rw up refl in
+    let range : between long (long + length bytes) ≡ Range long (long + length bytes) =
+    rw up refl in
     set ∙ (ap (λ (r : Request). with_offset long r) is
     ∙ ap (λ (s : Span). requests.Write (start_of s) bytes) (sym range))
 

@@ -1,5 +1,6 @@
 -- A job is put back.
-use Rattle.std.proofs.Common.{◌≡◌, ◌∙◌, ◌+◌, ◌-◌, ◌<◌, ◌≤◌, ap, arith, inl, length, List, [], ◌∷◌, Option, Some, refl, sym, true, false, ℕ}
+use Rattle.std.proofs.Common.{◌≡◌, ◌∙◌, ◌+◌, ◌-◌, ◌<◌, ◌≤◌, ap, arith, inl, length, List, [], ◌∷◌}
+use Rattle.std.proofs.Common.{Option, Some, refl, sym, true, false, ℕ}
 use Rattle.std.specs.Prelude.{option_map}
 use Rattle.cfs_core.specs.declared.event.Event.TheVariants as events
 use Rattle.cfs_core.specs.declared.event.SizeEnd.TheVariants as sizes
@@ -57,7 +58,11 @@ coming old job core world out stands stand =
     let inside = in-log is_out refl core.tracks job.place running in
     let beside : IsBesideDoubt core job.place =
     λ d doubtful same.
-    omega (arith, doubt-behind view core job.place is.entry d stands.follows is.there doubtful, same)
+    omega (
+      arith,
+      doubt-behind view core job.place is.entry d stands.follows is.there doubtful,
+      same,
+    )
     in
     record {
       is = is;

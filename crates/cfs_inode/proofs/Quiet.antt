@@ -1,5 +1,6 @@
 -- Calls that ask for no step of a device.
-use Rattle.std.proofs.Common.{◌≡◌, ◌∙◌, ◌≤◌, ◌+◌, ap, arith, inr, List, [], ◌∷◌, length, None, refl, subst, sym, true, false, ℕ}
+use Rattle.std.proofs.Common.{◌≡◌, ◌∙◌, ◌≤◌, ◌+◌, ap, arith, inr, List, [], ◌∷◌, length, None, refl}
+use Rattle.std.proofs.Common.{subst, sym, true, false, ℕ}
 use Rattle.std.specs.Prelude.{is_some}
 use Rattle.cfs_file.specs.declared.request.Request.{Request}
 use Rattle.cfs_core.specs.declared.event.Event.{Event}

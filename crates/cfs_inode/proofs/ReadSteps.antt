@@ -1,5 +1,7 @@
 -- The reading steps of a read, block by block.
-use Rattle.std.proofs.Common.{◌≡◌, ◌∙◌, ◌+◌, ◌-◌, ◌<◌, ◌≤◌, ◌++◌, ap, append_assoc, append-nil, arith, drop, length, length-append, List, [], ◌∷◌, Ok, Err, Result, false, subst, sym, ℕ, zero, suc}
+use Rattle.std.proofs.Common.{◌≡◌, ◌∙◌, ◌+◌, ◌-◌, ◌<◌, ◌≤◌, ◌++◌, ap, append_assoc, append-nil}
+use Rattle.std.proofs.Common.{arith, drop, length, length-append, List, [], ◌∷◌, Ok, Err, Result}
+use Rattle.std.proofs.Common.{false, subst, sym, ℕ, zero, suc}
 use Rattle.std.specs.Prelude.{is_ok}
 use Rattle.std.specs.List.{range_with_len}
 use Rattle.std.proofs.Math.Seq.{drop-append-add}

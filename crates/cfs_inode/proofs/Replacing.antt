@@ -1,5 +1,6 @@
 -- The slots at a place come to be other ones, and what the state knows of that place.
-use Rattle.std.proofs.Common.{◌≡◌, ◌∙◌, ap, inl, inr, List, [], ◌∷◌, Option, Some, refl, subst, sym, true, false, ℕ}
+use Rattle.std.proofs.Common.{◌≡◌, ◌∙◌, ap, inl, inr, List, [], ◌∷◌, Option, Some, refl, subst, sym}
+use Rattle.std.proofs.Common.{true, false, ℕ}
 use Rattle.cfs_pmem.specs.Images.{Seen}
 use Rattle.cfs_block.specs.BlockImages.{BlockStep}
 use Rattle.cfs_core.specs.declared.inode_core.Core.{Core}
@@ -20,7 +21,8 @@ use Rattle.cfs_tracker.specs.Cells.{cell_at, held_in}
 use Rattle.cfs_tracker.specs.Follows.{Follows}
 use Rattle.cfs_tracker.specs.View.{TrackerView, entry_at}
 use Rattle.cfs_inode.specs.View.{Held, Seens, StateView}
-use Rattle.cfs_inode.specs.Stands.{AllStand, AreHeld, IsAtRest, JobStands, Stands, Together, slots_in}
+use Rattle.cfs_inode.specs.Stands.{AllStand, AreHeld, IsAtRest, JobStands, Stands, Together}
+use Rattle.cfs_inode.specs.Stands.{slots_in}
 
 -- ---- jobs
 

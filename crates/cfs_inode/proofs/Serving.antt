@@ -1,5 +1,8 @@
 -- A read is answered with the stored bytes.
-use Rattle.std.proofs.Common.{◌≡◌, ◌∙◌, ◌+◌, ◌-◌, ◌*◌, ◌/◌, ◌%◌, ◌<◌, ◌≤◌, ◌==◌, ◌++◌, ap, append-nil, arith, inl, inr, List, [], ◌∷◌, length, get_or, Option, None, Some, refl, subst, sym, true, false, Bool, ℕ, zero, suc, if◌then◌else◌}
+use Rattle.std.proofs.Common.{◌≡◌, ◌∙◌, ◌+◌, ◌-◌, ◌*◌, ◌/◌, ◌%◌, ◌<◌, ◌≤◌, ◌==◌, ◌++◌, ap}
+use Rattle.std.proofs.Common.{append-nil, arith, inl, inr, List, [], ◌∷◌, length, get_or, Option}
+use Rattle.std.proofs.Common.{None, Some, refl, subst, sym, true, false, Bool, ℕ, zero, suc}
+use Rattle.std.proofs.Common.{if◌then◌else◌}
 use Rattle.std.specs.Prelude.{is_some, nat_lt}
 use Rattle.std.specs.List.{range_with_len}
 use Rattle.std.specs.Option.{option_or}
@@ -22,7 +25,8 @@ use Rattle.cfs_core.specs.Medium.{reads}
 use Rattle.cfs_core.specs.May.{are_stored, read_alike}
 use Rattle.cfs_core.specs.declared.state.State.{State}
 use Rattle.cfs_core.specs.declared.state.State.TheVariants as states
-use Rattle.cfs_core.specs.Words.{can_be, end_of, is_on, is_out, is_unserved, positions, start_of, track}
+use Rattle.cfs_core.specs.Words.{can_be, end_of, is_on, is_out, is_unserved, positions, start_of}
+use Rattle.cfs_core.specs.Words.{track}
 use Rattle.cfs_core.proofs.Images.{all_in_range}
 use Rattle.cfs_core.proofs.Legal.{and_all}
 use Rattle.cfs_core.proofs.Marks.{track_beside}
@@ -45,7 +49,8 @@ use Rattle.cfs_tracker.proofs.Readings.{follows-served, read-is}
 use Rattle.cfs_tracker.proofs.Tracks.{in-log}
 use Rattle.cfs_inode.specs.Makes.{CallMakes}
 use Rattle.cfs_inode.specs.Reads.{QuietlyMakes, without_read}
-use Rattle.cfs_inode.specs.Serves.{CellsSeen, byte_in, count_of, end_block, first_lender, home_byte, lender_in, stored_byte, stored_bytes}
+use Rattle.cfs_inode.specs.Serves.{CellsSeen, byte_in, count_of, end_block, first_lender, home_byte}
+use Rattle.cfs_inode.specs.Serves.{lender_in, stored_byte, stored_bytes}
 use Rattle.cfs_inode.specs.Stands.{IsAtRest, Stands, Together}
 use Rattle.cfs_inode.specs.View.{StateView}
 use Rattle.cfs_inode.proofs.Composing.{makes-then}

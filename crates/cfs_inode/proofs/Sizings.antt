@@ -1,5 +1,7 @@
 -- The size word is set for a change whose job is through.
-use Rattle.std.proofs.Common.{◌≡◌, ◌∙◌, ◌+◌, ◌&&◌, ◌||◌, ◌<◌, ◌≤◌, ◌==◌, ap, arith, get_or, inl, inr, length, List, [], ◌∷◌, ◌++◌, not, Option, None, Some, Ok, refl, subst, sym, true, false, ℕ, Bool}
+use Rattle.std.proofs.Common.{◌≡◌, ◌∙◌, ◌+◌, ◌&&◌, ◌||◌, ◌<◌, ◌≤◌, ◌==◌, ap, arith, get_or, inl}
+use Rattle.std.proofs.Common.{inr, length, List, [], ◌∷◌, ◌++◌, not, Option, None, Some, Ok, refl}
+use Rattle.std.proofs.Common.{subst, sym, true, false, ℕ, Bool}
 use Rattle.std.proofs.lemmas.Bool.Decides.{nat_tests}
 use Rattle.cfs_core.specs.declared.event.End.TheVariants as ends
 use Rattle.cfs_core.specs.declared.event.Event.TheVariants as events
@@ -7,7 +9,8 @@ use Rattle.cfs_core.specs.declared.event.SizeEnd.TheVariants as sizes
 use Rattle.cfs_core.specs.declared.inode_core.Core.{Core}
 use Rattle.cfs_core.specs.declared.state.State.TheVariants as states
 use Rattle.cfs_core.specs.After.{after, put_back as track_back, with_track}
-use Rattle.cfs_core.specs.May.{ends_well, is_in_phase, is_size_set, keeps_gate, may, may_finish, stands_at}
+use Rattle.cfs_core.specs.May.{ends_well, is_in_phase, is_size_set, keeps_gate, may, may_finish}
+use Rattle.cfs_core.specs.May.{stands_at}
 use Rattle.cfs_core.specs.Medium.{is_size}
 use Rattle.cfs_core.specs.Words.{is_done, is_out, is_through, sized, track}
 use Rattle.cfs_core.proofs.Legal.{both}
@@ -93,7 +96,8 @@ unwritten-shows ino core world new shows is =
 abbrev either : Core → ℕ → Core
 either core size = record core { size = size; sizes = core.sizes ++ core.size ∷ [] }
 
-set-fits : (core : Core) (world : World) (size : ℕ) (words : List ℕ) → 0 < length (words_of world.size) →
+set-fits : (core : Core) (world : World) (size : ℕ) (words : List ℕ) →
+    0 < length (words_of world.size) →
     ((image : List ℕ) → IsImage world.size.history image →
     is_size core (get_or image 0 0) ≡ true) → IsSetFrom world.size 0 size words →
     is_size (either core size) (get_or words 0 0) ≡ true
@@ -128,7 +132,8 @@ unkept-shows ino core world new size obeys result asked_old asked_new shows some
           record { from = fits.from; to = fits.to; apart = fits.apart };
       loose = shows.shape.loose;
     })
-    (λ words image. set-fits core world size words some shows.sizes (at_end sets.moments words image))
+    (λ words image. set-fits core world size words some shows.sizes
+    (at_end sets.moments words image))
     (ap (λ (s : Seen WordStep). get_or (words_of s) 0 0) is
     ∙ first_set (words_of world.size) size some)
 
@@ -162,12 +167,14 @@ may-back : (core : Core) (place : ℕ) →
 may-back core place allowed right sure =
     let t = track core.tracks place in
     let end = sized_end t.gate in
-    let phase = both (is_in_phase core.crashed (events.Finish place end)) (may_finish core place end)
+    let phase =
+    both (is_in_phase core.crashed (events.Finish place end)) (may_finish core place end)
     allowed in
     let out = both (is_out t.state) (ends_well core place end) phase.1 in
     let gate = both (keeps_gate t.gate t.gate)
     (stands_at core place && (t.applied || is_size_set core t.span sizes.Set)) out.1 in
-    let bytes = both (stands_at core place) (t.applied || is_size_set core t.span sizes.Set) gate.1 in
+    let bytes =
+    both (stands_at core place) (t.applied || is_size_set core t.span sizes.Set) gate.1 in
     let same : (core.size == sized core.size t.span) ≡ true = grind (arith, nat_tests) in
     let size : is_size_set core t.span sizes.AsBefore ≡ true = rw (same, sure) refl in
     rw (
@@ -249,7 +256,8 @@ sized-by old job core world obeys asked_old asked_new size wanted true out stand
     subst (λ (a : List Asked). IsSized old job core world asked_old a size) (sym sets.0)
     (subst (λ (s : Seen WordStep). IsSized old job core world asked_old asked_old s) (sym now)
     (right-sized old job core world asked_old stands allowed same (stands.follows.sure parts.0)))
-sized-by old job core world obeys asked_old asked_new size wanted false out stands comes some allowed
+sized-by old job core world obeys asked_old asked_new size wanted false out stands comes some
+    allowed
     is right sets =
     set-sized old job core world obeys asked_old asked_new size out stands comes
     (subst (λ (s : Seen WordStep). 0 < length (words_of s)) (sym stands.size) some)

@@ -1,5 +1,6 @@
 -- Blocks that are tagged, told of a state.
-use Rattle.std.proofs.Common.{◌≡◌, ◌∙◌, ◌<◌, ◌++◌, ap, List, [], ◌∷◌, length, map, None, Some, refl, set, sym, true, false, ℕ, Bool}
+use Rattle.std.proofs.Common.{◌≡◌, ◌∙◌, ◌<◌, ◌++◌, ap, List, [], ◌∷◌, length, map, None, Some, refl}
+use Rattle.std.proofs.Common.{set, sym, true, false, ℕ, Bool}
 use Rattle.std.proofs.lemmas.List.{map-append}
 use Rattle.cfs_pmem.specs.Images.{Seen, WordStep}
 use Rattle.cfs_block.specs.BlockImages.{BlockStep}

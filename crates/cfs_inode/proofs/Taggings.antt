@@ -1,5 +1,6 @@
 -- Blocks are tagged.
-use Rattle.std.proofs.Common.{◌≡◌, ◌∙◌, ◌⊎◌, ◌≤◌, ◌<◌, ◌+◌, ap, arith, get_or, inl, inr, List, [], ◌∷◌, length, None, Some, refl, set, subst, true, false, ℕ, Bool}
+use Rattle.std.proofs.Common.{◌≡◌, ◌∙◌, ◌⊎◌, ◌≤◌, ◌<◌, ◌+◌, ap, arith, get_or, inl, inr, List, []}
+use Rattle.std.proofs.Common.{◌∷◌, length, None, Some, refl, set, subst, true, false, ℕ, Bool}
 use Rattle.cfs_file.specs.declared.sizes.TheConstants.{FILE_BLOCKS}
 use Rattle.cfs_core.specs.declared.event.Event.TheVariants as events
 use Rattle.cfs_core.specs.declared.flag.Flag.{Flag}
@@ -96,7 +97,8 @@ tag-leads : (old : StateView) (n block : ℕ) (home now : Seen BlockStep) (kept 
     BlockLeads old.ino n block (after core (events.Tag block false))
     (after core (events.Tag block true)) (after core (events.Tag block false)) world now
     (answer_for kept) asked_old asked_new
-tag-leads old n block home now kept core world obeys keeps asked_old asked_new less tagging follows shows here full blank sets bound =
+tag-leads old n block home now kept core world obeys keeps asked_old asked_new less tagging follows
+    shows here full blank sets bound =
     tags-show old.ino n block core world home now obeys keeps (answer_for kept) asked_old asked_new
     (good (after core (events.Tag block false))
     (follows-tag old.tracker core block now false less tagging follows).1.reached)
@@ -293,7 +295,8 @@ pub tag-fresh : (old : StateView) (block : ℕ) (home now : Seen BlockStep)
     SetsTag obeys keeps (tag_of old.ino block) (answer_for kept) asked_old home asked_new now →
     CallMakes (events.Tag block kept ∷ []) asked_old old asked_new
     (with_block_cell block (tagged_cell now kept) old)
-tag-fresh old block home now kept obeys keeps asked_old asked_new less unmapped none zero_ full sets =
+tag-fresh old block home now kept obeys keeps asked_old asked_new less unmapped none zero_ full sets
+    =
     tag-done old block home now kept obeys keeps asked_old asked_new less full sets
     (λ core world stands.
     let hole = rest-hole old.ino block (cell_at old.tracker.cells block) unmapped none

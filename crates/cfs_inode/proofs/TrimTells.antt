@@ -1,5 +1,6 @@
 -- The blocks of a tracker, told as something else.
-use Rattle.std.proofs.Common.{◌≡◌, ◌∙◌, ◌&&◌, ap, cond, List, [], ◌∷◌, length, map, Option, None, Some, refl, sym, true, ℕ, Bool}
+use Rattle.std.proofs.Common.{◌≡◌, ◌∙◌, ◌&&◌, ap, cond, List, [], ◌∷◌, length, map, Option, None}
+use Rattle.std.proofs.Common.{Some, refl, sym, true, ℕ, Bool}
 use Rattle.std.specs.List.{find, list_any, range_with_len}
 use Rattle.std.proofs.Math.ListN.{get_or-map}
 use Rattle.std.proofs.lemmas.List.{length-map, map-set}
@@ -22,7 +23,8 @@ use Rattle.cfs_tracker.specs.Trim.{is_doubt_in, is_held, is_live_in, is_past, ne
 use Rattle.cfs_tracker.specs.View.{TrackerView, view_of}
 use Rattle.cfs_inode.specs.declared.state.State.{State}
 use Rattle.cfs_inode.specs.Trims.{block_at, with_block_cell}
-use Rattle.cfs_inode.specs.View.{held_of, seens_of, state_view, told, told_cell, told_doing, told_doubt, told_entry, told_option}
+use Rattle.cfs_inode.specs.View.{held_of, seens_of, state_view, told, told_cell, told_doing}
+use Rattle.cfs_inode.specs.View.{told_doubt, told_entry, told_option}
 use Rattle.cfs_inode.proofs.Blocks.{set-set}
 use Rattle.cfs_inode.proofs.States.{state-told}
 

@@ -1,5 +1,7 @@
 -- A block past the stored size is given up.
-use Rattle.std.proofs.Common.{◌≡◌, ◌∙◌, ◌*◌, ◌≤◌, ◌<◌, ◌+◌, ◌&&◌, ap, arith, get_or, inl, inr, List, [], ◌∷◌, length, Option, None, Some, Ok, Err, refl, set, subst, true, false, ℕ, Bool}
+use Rattle.std.proofs.Common.{◌≡◌, ◌∙◌, ◌*◌, ◌≤◌, ◌<◌, ◌+◌, ◌&&◌, ap, arith, get_or, inl, inr, List}
+use Rattle.std.proofs.Common.{[], ◌∷◌, length, Option, None, Some, Ok, Err, refl, set, subst, true}
+use Rattle.std.proofs.Common.{false, ℕ, Bool}
 use Rattle.std.specs.Prelude.{is_none, nat_lt, nat_le, not}
 use Rattle.std.specs.List.{list_any, range_with_len}
 use Rattle.std.proofs.lemmas.Bool.Decides.{nat_tests}
@@ -18,7 +20,8 @@ use Rattle.cfs_pmem.specs.Images.{Seen}
 use Rattle.cfs_pmem.proofs.AllMomentLemmas.{all_weaker}
 use Rattle.cfs_pmem.proofs.MomentLemmas.{at_end}
 use Rattle.cfs_block.specs.BlockImages as blocks
-use Rattle.cfs_block.specs.BlockImages.{AllBlockImages, BlockStep, Content, IsSureBlock, IsUntagged, content_of, kept}
+use Rattle.cfs_block.specs.BlockImages.{AllBlockImages, BlockStep, Content, IsSureBlock, IsUntagged}
+use Rattle.cfs_block.specs.BlockImages.{content_of, kept}
 use Rattle.cfs_block.specs.BlockOps.{SetsTag}
 use Rattle.cfs_medium.specs.BlockEvents.{BlockLeads, IsBlank}
 use Rattle.cfs_medium.specs.Shows.{Recovers, Shows}
@@ -30,7 +33,8 @@ use Rattle.cfs_tracker.specs.declared.cell.Cell.{Cell}
 use Rattle.cfs_tracker.specs.declared.cell.Cell.TheVariants as kinds
 use Rattle.cfs_tracker.specs.Cells.{cell_at, held_in, moving, with_cell}
 use Rattle.cfs_tracker.specs.Follows.{CellStands, Follows}
-use Rattle.cfs_tracker.specs.Trim.{is_doubt_in, is_held, is_live_in, is_moving, is_past, left_cell, next_trim}
+use Rattle.cfs_tracker.specs.Trim.{is_doubt_in, is_held, is_live_in, is_moving, is_past, left_cell}
+use Rattle.cfs_tracker.specs.Trim.{next_trim}
 use Rattle.cfs_tracker.specs.View.{TrackerView}
 use Rattle.cfs_tracker.proofs.Celling.{cell-here}
 use Rattle.cfs_tracker.proofs.Entries.{found-test}
@@ -41,7 +45,8 @@ use Rattle.cfs_inode.specs.Marking.{answer_for}
 use Rattle.cfs_inode.specs.Stands.{IsAtRest, Stands}
 use Rattle.cfs_inode.specs.Trims.{block_at, with_block_cell}
 use Rattle.cfs_inode.specs.View.{StateView}
-use Rattle.cfs_inode.proofs.Blocks.{block-put, follows-moving, held-free, retagged, set-set, with-none}
+use Rattle.cfs_inode.proofs.Blocks.{block-put, follows-moving, held-free, retagged, set-set}
+use Rattle.cfs_inode.proofs.Blocks.{with-none}
 use Rattle.cfs_inode.proofs.Zeros.{blank-tried, past-blank}
 use Rattle.cfs_inode.proofs.Goods.{good}
 
@@ -120,7 +125,8 @@ trim-leads : (old : StateView) (n block : ℕ) (was now : Seen BlockStep) (freed
     BlockLeads old.ino n block (after core (events.Trim block false))
     (after core (events.Trim block true)) (after core (events.Trim block false)) world now
     (answer_for freed) asked_old asked_new
-trim-leads old n block was now freed core world obeys keeps asked_old asked_new past has sets stands bound =
+trim-leads old n block was now freed core world obeys keeps asked_old asked_new past has sets stands
+    bound =
     let gone = follows-trim old.tracker core block was None past has stands.follows in
     let left = follows-trim old.tracker core block was (Some now) past has stands.follows in
     trims-show old.ino n block core world was now obeys keeps (answer_for freed) asked_old

@@ -1,5 +1,6 @@
 -- What there is to do, of a tracker whose slots and blocks are told as something else.
-use Rattle.std.proofs.Common.{◌≡◌, ◌∙◌, ◌&&◌, ap, inl, inr, List, [], ◌∷◌, map, length, Option, None, Some, refl, true, false, Bool, ℕ, zero, suc}
+use Rattle.std.proofs.Common.{◌≡◌, ◌∙◌, ◌&&◌, ap, inl, inr, List, [], ◌∷◌, map, length, Option}
+use Rattle.std.proofs.Common.{None, Some, refl, true, false, Bool, ℕ, zero, suc}
 use Rattle.std.specs.Prelude.{find, nat_lt, option_map}
 use Rattle.std.specs.List.{range_with_len}
 use Rattle.std.proofs.lemmas.Bool.{cases_Bool}
@@ -15,7 +16,9 @@ use Rattle.cfs_tracker.specs.declared.pending.Pending.{Pending}
 use Rattle.cfs_tracker.specs.declared.reading.Reading.{Reading}
 use Rattle.cfs_tracker.specs.Admit.{is_mapped}
 use Rattle.cfs_tracker.specs.Cells.{cell_at}
-use Rattle.cfs_tracker.specs.Dispatch.{ahead, first_cell, holder, is_ahead, is_waiting_doing, is_wanted_cell, lent_to, lesser, next_cell, read_place, is_read_ahead, second_cell, step_behind, step_of}
+use Rattle.cfs_tracker.specs.Dispatch.{ahead, first_cell, holder, is_ahead, is_waiting_doing}
+use Rattle.cfs_tracker.specs.Dispatch.{is_wanted_cell, lent_to, lesser, next_cell, read_place}
+use Rattle.cfs_tracker.specs.Dispatch.{is_read_ahead, second_cell, step_behind, step_of}
 use Rattle.cfs_tracker.specs.Listing.{is_listed, listed, listed_doubt, listing, state_in}
 use Rattle.cfs_tracker.specs.Reads.{blocker_of, has_needed, is_before, is_live_doing, place_of}
 use Rattle.cfs_tracker.specs.View.{TrackerView}
@@ -185,7 +188,8 @@ needed-told tell span (doings.Covered slots) = refl
 needed-told tell span doings.Closing = refl
 
 first-place-told : {S T : Type 0} (tell : S → T) (test : Pending S → Bool)
-    (now : Pending T → Bool) → ((e : Pending S) → now (told_entry tell e) ≡ test e) → (es : List (Pending S)) →
+    (now : Pending T → Bool) → ((e : Pending S) → now (told_entry tell e) ≡ test e) →
+    (es : List (Pending S)) →
     place_of (find now (map (told_entry tell) es)) ≡ place_of (find test es)
 first-place-told tell test now same es =
     ap place_of (find-told tell test now same es) ∙ place-told tell (find test es)

@@ -1,5 +1,7 @@
 -- Blocks that hold zeros in every image.
-use Rattle.std.proofs.Common.{◌≡◌, ◌∙◌, ◌⊎◌, ◌<◌, ◌+◌, ◌*◌, ◌/◌, ap, arith, get_or, inl, inr, Option, Some, refl, replicate, subst, sym, true, false, zero, suc, ℕ, Bool}
+use Rattle.std.proofs.Common.{◌≡◌, ◌∙◌, ◌⊎◌, ◌<◌, ◌+◌, ◌*◌, ◌/◌, ap, arith, get_or, inl, inr}
+use Rattle.std.proofs.Common.{Option, Some, refl, replicate, subst, sym, true, false, zero, suc, ℕ}
+use Rattle.std.proofs.Common.{Bool}
 use Rattle.cfs_file.specs.declared.sizes.TheConstants.{BLOCK_LEN, FILE_BLOCKS}
 use Rattle.cfs_core.specs.declared.event.Event.TheVariants as events
 use Rattle.cfs_core.specs.declared.flag.Flag.{Flag}
@@ -13,7 +15,8 @@ use Rattle.cfs_core_laws.specs.Reached.{IsReached}
 use Rattle.cfs_core_laws.proofs.Blanks.{calm-at}
 use Rattle.cfs_core_laws.proofs.Whole.{whole}
 use Rattle.cfs_pmem.specs.Images.{Seen}
-use Rattle.cfs_block.specs.BlockImages.{AllBlockImages, BlockStep, Content, IsTaggedFrom, IsZero, zeros}
+use Rattle.cfs_block.specs.BlockImages.{AllBlockImages, BlockStep, Content, IsTaggedFrom, IsZero}
+use Rattle.cfs_block.specs.BlockImages.{zeros}
 use Rattle.cfs_medium.specs.BlockEvents.{IsBlank}
 use Rattle.cfs_medium.specs.Shows.{Shows, is_for}
 use Rattle.cfs_medium.specs.Store.{tag_of}

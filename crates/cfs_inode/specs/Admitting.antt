@@ -1,5 +1,6 @@
 -- A change is admitted.
-use Rattle.std.specs.Prelude.{ℕ, ◌≡◌, ◌<◌, Bool, true, false, Option, Some, None, Ok, Err, List, [], ◌∷◌, ◌++◌, ◌≤◌, is_some, length}
+use Rattle.std.specs.Prelude.{ℕ, ◌≡◌, ◌<◌, Bool, true, false, Option, Some, None, Ok, Err, List, []}
+use Rattle.std.specs.Prelude.{◌∷◌, ◌++◌, ◌≤◌, is_some, length}
 use Rattle.cfs_file.specs.declared.entry.Entry.{Entry}
 use Rattle.cfs_file.specs.declared.request.Request.{Request}
 use Rattle.cfs_file.specs.declared.request.Request.TheVariants as requests
@@ -89,20 +90,23 @@ pub data AdmitsSettled (obeys tags keeps : Bool) (request : Request) (grant : �
   unplaced : (now : Seens) →
       Places obeys request old.tracker.long false asked_old staged asked_new now →
       stock_new ≡ stock_old → new ≡ old →
-      AdmitsSettled obeys tags keeps request grant staged asked_old stock_old old asked_new stock_new
+      AdmitsSettled obeys tags keeps request grant staged asked_old stock_old old asked_new
+      stock_new
       new (refused now)
   unmapped : (now : Seens) (asked : List Asked) →
       Places obeys request old.tracker.long true asked_old staged asked now →
       MapsBlocks tags keeps (span request old.tracker.long) false asked stock_old old asked_new
       stock_new new →
-      AdmitsSettled obeys tags keeps request grant staged asked_old stock_old old asked_new stock_new
+      AdmitsSettled obeys tags keeps request grant staged asked_old stock_old old asked_new
+      stock_new
       new (refused now)
   mapped : (now : Seens) (asked behind : List Asked) (mid : StateView) (end : AdmitEnd) →
       Places obeys request old.tracker.long true asked_old staged asked now →
       MapsBlocks tags keeps (span request old.tracker.long) true asked stock_old old behind
       stock_new mid →
       AdmitsReady obeys request grant now behind mid asked_new new end →
-      AdmitsSettled obeys tags keeps request grant staged asked_old stock_old old asked_new stock_new
+      AdmitsSettled obeys tags keeps request grant staged asked_old stock_old old asked_new
+      stock_new
       new end
 
 abbrev pub settled_events : {obeys tags keeps : Bool} {request : Request} {grant : ℕ}

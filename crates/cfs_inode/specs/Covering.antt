@@ -1,5 +1,6 @@
 -- All changes that wait and that one change covers are marked.
-use Rattle.std.specs.Prelude.{ℕ, ◌≡◌, Bool, true, false, Option, Some, None, List, [], ◌∷◌, ◌++◌, filter, length, map}
+use Rattle.std.specs.Prelude.{ℕ, ◌≡◌, Bool, true, false, Option, Some, None, List, [], ◌∷◌, ◌++◌}
+use Rattle.std.specs.Prelude.{filter, length, map}
 use Rattle.cfs_core.specs.declared.event.Event.{Event}
 use Rattle.cfs_pmem.specs.declared.trace.Asked.{Asked}
 use Rattle.cfs_tracker.specs.declared.pending.Pending.{Pending}

@@ -1,5 +1,6 @@
 -- What a call answers and leaves by which a job ends.
-use Rattle.std.specs.Prelude.{ℕ, ◌<◌, ◌≡◌, ◌==◌, ◌&&◌, Bool, true, false, Ok, Err, List, [], ◌∷◌, map}
+use Rattle.std.specs.Prelude.{ℕ, ◌<◌, ◌≡◌, ◌==◌, ◌&&◌, Bool, true, false, Ok, Err, List, [], ◌∷◌}
+use Rattle.std.specs.Prelude.{map}
 use Rattle.cfs_pmem.specs.declared.trace.Asked.{Asked}
 use Rattle.cfs_pmem.specs.Images.{Seen, WordStep, failed as stopped, wrote}
 use Rattle.cfs_pmem.specs.WordOps.{SetsWord}
@@ -15,7 +16,8 @@ use Rattle.cfs_job.specs.Views.{JobView}
 use Rattle.cfs_medium.specs.SlotEvents.{Answer}
 use Rattle.cfs_slot.specs.declared.slot.Slot.{Slot}
 use Rattle.cfs_slot.specs.Regions.{of_slots}
-use Rattle.cfs_tracker.specs.Finish.{applied, as_far, is_last, more, retired, size_after, size_unsure}
+use Rattle.cfs_tracker.specs.Finish.{applied, as_far, is_last, more, retired, size_after}
+use Rattle.cfs_tracker.specs.Finish.{size_unsure}
 use Rattle.cfs_vec.specs.declared.fixed_vec.FixedVec.{FixedVec}
 use Rattle.cfs_inode.specs.declared.finish_answer.FinishAnswer.{FinishAnswer}
 use Rattle.cfs_inode.specs.declared.finish_answer.FinishAnswer.TheVariants as answers

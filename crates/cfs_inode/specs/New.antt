@@ -1,5 +1,6 @@
 -- A state of a file of which nothing is pending.
-use Rattle.std.specs.Prelude.{ℕ, ◌+◌, ◌*◌, ◌≡◌, ◌≤◌, ◌<◌, ◌==◌, Option, Some, None, List, [], ◌∷◌, length, get_or, set, is_some, if◌then◌else◌}
+use Rattle.std.specs.Prelude.{ℕ, ◌+◌, ◌*◌, ◌≡◌, ◌≤◌, ◌<◌, ◌==◌, Option, Some, None, List, [], ◌∷◌}
+use Rattle.std.specs.Prelude.{length, get_or, set, is_some, if◌then◌else◌}
 use Rattle.cfs_file.specs.declared.sizes.TheConstants.{BLOCK_LEN, FILE_BLOCKS}
 use Rattle.cfs_pmem.specs.Images.{IsSure, Seen, WordStep, words_of}
 use Rattle.cfs_block.specs.BlockImages.{BlockStep, IsSureBlock, content_of}

@@ -46,9 +46,10 @@ Places obeys request long placed asked_old old asked_new new =
     (placed ≡ true) × ((asked_new ≡ asked_old) × (new ≡ old))
 
 -- The slots hold the request at its place, and its offset is not unsure.
-pub record IsPlaced (request : Request) (long : ℕ) (head : Seen WordStep) (held : Request) : Type 0 where
-  pub holds : held ≡ placed (span request long) request
-  pub sure : IsSure head
+pub record IsPlaced (request : Request) (long : ℕ) (head : Seen WordStep) (held : Request) : Type 0
+  where
+    pub holds : held ≡ placed (span request long) request
+    pub sure : IsSure head
 
 -- the slots are of the same inode and grant
 pub record IsOfSame (old new : Seen WordStep) : Type 0 where

@@ -1,6 +1,7 @@
 //! A change is admitted.
 
-ghost use Rattle.std.specs.Prelude.{◌≡◌, ◌≤◌, ◌+◌, ◌<◌, ◌^◌, length, None, true, vec_capacity, vec_len};
+ghost use Rattle.std.specs.Prelude.{◌≡◌, ◌≤◌, ◌+◌, ◌<◌, ◌^◌, length, None, true, vec_capacity};
+ghost use Rattle.std.specs.Prelude.{vec_len};
 ghost use Rattle.cfs_file.specs.declared.sizes.TheConstants.{LONGEST_FILE};
 ghost use Rattle.cfs_file.specs.Span.{span};
 ghost use Rattle.cfs_core.specs.May.{is_change};
@@ -11,7 +12,8 @@ ghost use Rattle.cfs_slot.specs.Words.{grant_of, ino_of, request_of};
 ghost use Rattle.cfs_tracker.specs.Admit.{MayAdmit, bare_needed, long_after};
 ghost use Rattle.cfs_tracker.specs.View.{view_of};
 ghost use Rattle.cfs_vec.specs.Items.{items_of};
-ghost use Rattle.cfs_inode.specs.Admitting.{AdmissionMakes, ReadyMakes, SettledMakes, admit_end, count_in, freed_by, is_here, offset_in};
+ghost use Rattle.cfs_inode.specs.Admitting.{AdmissionMakes, ReadyMakes, SettledMakes, admit_end};
+ghost use Rattle.cfs_inode.specs.Admitting.{count_in, freed_by, is_here, offset_in};
 ghost use Rattle.cfs_inode.specs.Ends.{end_of};
 ghost use Rattle.cfs_inode.specs.Placing.{IsStagedFor, IsSureFor, staged_seens};
 ghost use Rattle.cfs_inode.specs.Tagging.{stock_of};
@@ -125,8 +127,8 @@ impl<R: Region + Drop, B: Block + Drop> InodeState<R, B> {
     }
 
     /// Admits a change that was staged for this inode, with blocks of a stock, and marks what it
-    /// covers. Settles the request in doubt first, if there is one: `settled` tells what became of it,
-    /// with its slots. Whether the grant of the slots still stands is for the caller to see.
+    /// covers. Settles the request in doubt first, if there is one: `settled` tells what became of
+    /// it, with its slots. Whether the grant of the slots still stands is for the caller to see.
     ///
     /// It refuses before any step, in this order: `TooBig` exactly where the file would pass its
     /// longest length, and `NeedBlocks` exactly where the stock has fewer blocks than there are

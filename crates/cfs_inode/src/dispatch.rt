@@ -1,7 +1,8 @@
 //! Jobs are given out.
 
 ghost use Rattle.std.specs.Prelude.{◌≡◌};
-ghost use Rattle.cfs_inode.specs.Dispatching.{DispatchMakes, Dispatches, IsReadyAt, dispatch_end, lent_of};
+ghost use Rattle.cfs_inode.specs.Dispatching.{DispatchMakes, Dispatches, IsReadyAt, dispatch_end};
+ghost use Rattle.cfs_inode.specs.Dispatching.{lent_of};
 ghost use Rattle.cfs_inode.specs.View.{state_view};
 
 use crate::dispatch_answer::DispatchAnswer;

@@ -22,9 +22,9 @@ impl<R: Region + Drop, B: Block + Drop> InodeState<R, B> {
     /// Takes back a job that the state has out. It answers `Unfinished` exactly where the job has
     /// steps left, and then `More` exactly where its change has blocks left, which waits for them.
     /// Else the size word is set, in two writing steps or none where it is right in every image,
-    /// and the gate closed, in two writing steps: it is `Retired`, and its slots are given. `Failed`
-    /// comes for a device fault alone: then the change waits again, and is applied where the size
-    /// word was set.
+    /// and the gate closed, in two writing steps: it is `Retired`, and its slots are given.
+    /// `Failed` comes for a device fault alone: then the change waits again, and is applied where
+    /// the size word was set.
     pub fn finish<P: Power>(
         &mut self,
         power: &mut P,

@@ -6,7 +6,8 @@ ghost use Rattle.cfs_pmem.specs.Images.{IsSure, words_of};
 ghost use Rattle.cfs_core.specs.Fresh.{IsEmpty};
 ghost use Rattle.cfs_core.specs.declared.inode_core.Core.{Core};
 ghost use Rattle.cfs_tracker.specs.View.{view_of};
-ghost use Rattle.cfs_inode.specs.New.{IsStored, StandsFor, brought, stored_state, stored_world, told_mapped};
+ghost use Rattle.cfs_inode.specs.New.{IsStored, StandsFor, brought, stored_state, stored_world};
+ghost use Rattle.cfs_inode.specs.New.{told_mapped};
 ghost use Rattle.cfs_inode.specs.Stands.{Together};
 ghost use Rattle.cfs_inode.specs.View.{state_view};
 

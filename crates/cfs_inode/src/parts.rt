@@ -1,7 +1,8 @@
 //! A state is taken apart.
 
 ghost use Rattle.std.specs.Prelude.{◌≡◌, map};
-ghost use Rattle.cfs_inode.specs.View.{held_of, seens_of, state_view, told_cell, told_doubt, told_entry, told_option};
+ghost use Rattle.cfs_inode.specs.View.{held_of, seens_of, state_view, told_cell, told_doubt};
+ghost use Rattle.cfs_inode.specs.View.{told_entry, told_option};
 
 use crate::state::{InodeState, State};
 use cfs_block::Block;

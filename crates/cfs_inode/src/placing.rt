@@ -7,7 +7,8 @@ ghost use Rattle.cfs_slot.specs.Regions.{of_staged, tails_of_staged, words_in};
 ghost use Rattle.cfs_slot.specs.Words.{request_of};
 ghost use Rattle.cfs_tracker.specs.View.{view_of};
 ghost use Rattle.cfs_inode.specs.Makes.{CallMakes};
-ghost use Rattle.cfs_inode.specs.Placing.{IsOfSame, IsPlaced, IsStagedFor, IsSureFor, Places, staged_seens};
+ghost use Rattle.cfs_inode.specs.Placing.{IsOfSame, IsPlaced, IsStagedFor, IsSureFor, Places};
+ghost use Rattle.cfs_inode.specs.Placing.{staged_seens};
 ghost use Rattle.cfs_inode.specs.View.{state_view};
 
 use crate::state::InodeState;

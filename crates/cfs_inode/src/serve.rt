@@ -1,11 +1,14 @@
 //! Reads are answered.
 
-ghost use Rattle.std.specs.Prelude.{◌≡◌, ◌+◌, ◌-◌, ◌<◌, ◌≤◌, ℕ, IsTrue, OnOk, [], get_or, if◌then◌else◌, length, nat_lt};
+ghost use Rattle.std.specs.Prelude.{◌≡◌, ◌+◌, ◌-◌, ◌<◌, ◌≤◌, ℕ, IsTrue, OnOk, [], get_or};
+ghost use Rattle.std.specs.Prelude.{if◌then◌else◌, length, nat_lt};
 ghost use Rattle.cfs_file.specs.declared.sizes.TheConstants.{BLOCK_LEN};
 ghost use Rattle.cfs_core.specs.Words.{end_of, start_of};
 ghost use Rattle.cfs_tracker.specs.Cells.{cell_at};
 ghost use Rattle.cfs_inode.specs.Makes.{CallMakes};
-ghost use Rattle.cfs_inode.specs.Serves.{IsRead, IsReadOf, Reads, Serves, blocks_between, byte_in, end_block, home_byte, home_device, home_devices, lender_in, serve_events, stored_from, waits_for};
+ghost use Rattle.cfs_inode.specs.Serves.{IsRead, IsReadOf, Reads, Serves, blocks_between, byte_in};
+ghost use Rattle.cfs_inode.specs.Serves.{end_block, home_byte, home_device, home_devices};
+ghost use Rattle.cfs_inode.specs.Serves.{lender_in, serve_events, stored_from, waits_for};
 ghost use Rattle.cfs_inode.specs.View.{state_view};
 
 use crate::answers::ServeAnswer;

@@ -27,8 +27,8 @@ fn tag_of(ino: u64, block: u64) -> u64
 impl<R: Region + Drop, B: Block + Drop> InodeState<R, B> {
     /// Tags a block for a block of the file that is not mapped: the one that is kept for it, whose
     /// last tag failed, or else the last of the stock, which then has one. It takes two writing
-    /// steps. Answers whether the block is mapped; it is not after a device fault alone, and then it
-    /// is kept with a tag that is unsure.
+    /// steps. Answers whether the block is mapped; it is not after a device fault alone, and then
+    /// it is kept with a tag that is unsure.
     pub fn tag<P: Power, const N: usize>(
         &mut self,
         power: &mut P,

@@ -9,10 +9,10 @@ use cfs_block::{Block, FreeBlock, retag};
 use cfs_pmem::{Power, Region};
 
 impl<R: Region + Drop, B: Block + Drop> InodeState<R, B> {
-    /// Gives up the lowest block that is kept, begins at or past the stored size and has no position
-    /// of a live change or of the request in doubt: takes its tag away, in two writing steps. It
-    /// answers `Nothing` exactly where there is none, and `Failed` for a device fault alone. It walks
-    /// all blocks of the file.
+    /// Gives up the lowest block that is kept, begins at or past the stored size and has no
+    /// position of a live change or of the request in doubt: takes its tag away, in two writing
+    /// steps. It answers `Nothing` exactly where there is none, and `Failed` for a device fault
+    /// alone. It walks all blocks of the file.
     pub fn trim<P: Power>(&mut self, power: &mut P) -> TrimAnswer<B>
         ensures trims { Trims B.obeys_power B.keeps_refused (trim_end B.seen result)
             (P.asked power.old) (state_view R.seen B.seen self.old)

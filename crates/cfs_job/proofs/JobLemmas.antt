@@ -1,5 +1,7 @@
 -- A job as its steps leave it.
-use Rattle.std.proofs.Common.{ℕ, ◌+◌, ◌-◌, ◌≡◌, ◌&&◌, Bool, true, false, not, nat_lt, if◌then◌else◌, Option, Some, None, Result, Ok, Err, OnOk, OnErr, List, [], ◌∷◌, length, is_ok, is_some, refl, sym, ap, subst, arith}
+use Rattle.std.proofs.Common.{ℕ, ◌+◌, ◌-◌, ◌≡◌, ◌&&◌, Bool, true, false, not, nat_lt, if◌then◌else◌}
+use Rattle.std.proofs.Common.{Option, Some, None, Result, Ok, Err, OnOk, OnErr, List, [], ◌∷◌}
+use Rattle.std.proofs.Common.{length, is_ok, is_some, refl, sym, ap, subst, arith}
 use Rattle.std.proofs.Props.{props}
 use Rattle.cfs_file.specs.declared.span.Span.{Span}
 use Rattle.cfs_core.proofs.Legal.{both}
@@ -13,7 +15,9 @@ use Rattle.cfs_job.specs.Tiles.{lent_in, tile_in, tile_of}
 use Rattle.cfs_job.proofs.OpLemmas.{ranged_from_same}
 use Rattle.cfs_job.specs.declared.turn.Turn.{Turn}
 use Rattle.cfs_job.specs.declared.turn.Turn.TheVariants as turns
-use Rattle.cfs_job.specs.Stands.{IsDurable, IsOpen, IsOpenFor, IsSound, IsSpanFor, IsSpanOf, Keeps, ReadsAsNoted, StaysOutside, TileKeeps, are_touched, is_touched, is_touched_by}
+use Rattle.cfs_job.specs.Stands.{IsDurable, IsOpen, IsOpenFor, IsSound, IsSpanFor, IsSpanOf, Keeps}
+use Rattle.cfs_job.specs.Stands.{ReadsAsNoted, StaysOutside, TileKeeps, are_touched, is_touched}
+use Rattle.cfs_job.specs.Stands.{is_touched_by}
 use Rattle.cfs_job.specs.Steps.{Flushes, Writes, is_unflushed, is_unwritten, next_turn, one_if, steps_left}
 use Rattle.cfs_job.specs.Views.{JobView, TileView, anew_tile, payload_seen}
 use Rattle.cfs_job.proofs.KeepLemmas.{flush_keeps, write_keeps}
@@ -150,13 +154,15 @@ pub sound_write_first : {T E : Type 0} {obeys_slots obeys_block keeps : Bool} {s
     {asked_old asked_new : List Asked} (was now : TileView) (result : Result T E) → length (content_of was.seen).bytes ≡ 4096
     → Writes obeys_slots obeys_block keeps slots s result asked_old was asked_new now → IsSound slots place s (Some was) second → IsSound slots place s (Some now) second
 sound_write_first {T} {E} {obeys_slots} {obeys_block} {keeps} {slots} {place} {s} {second} was now result full w h =
-    sound_first was now (ap (λ (t : TileView). t.at) w.noted) (write_keeps was now result (h.spans refl) (touched_first second h) full w) h
+    sound_first was now (ap (λ (t : TileView). t.at) w.noted)
+    (write_keeps was now result (h.spans refl) (touched_first second h) full w) h
 
 pub sound_write_second : {T E : Type 0} {obeys_slots obeys_block keeps : Bool} {slots : List (Seen WordStep)} {place : ℕ} {s : Span} {first : Option TileView}
     {asked_old asked_new : List Asked} (was now : TileView) (result : Result T E) → length (content_of was.seen).bytes ≡ 4096
     → Writes obeys_slots obeys_block keeps slots s result asked_old was asked_new now → IsSound slots place s first (Some was) → IsSound slots place s first (Some now)
 sound_write_second {T} {E} {obeys_slots} {obeys_block} {keeps} {slots} {place} {s} {first} was now result full w h =
-    sound_second was now (ap (λ (t : TileView). t.at) w.noted) (write_keeps was now result (spans_second was first h) (touched_second first h) full w) h
+    sound_second was now (ap (λ (t : TileView). t.at) w.noted)
+    (write_keeps was now result (spans_second was first h) (touched_second first h) full w) h
 
 pub sound_flush_first : {T E : Type 0} {obeys_block keeps : Bool} {slots : List (Seen WordStep)} {place : ℕ} {s : Span} {second : Option TileView}
     {asked_old asked_new : List Asked} (was now : TileView) (result : Result T E) → was.written ≡ true
@@ -226,7 +232,9 @@ spans_new seen number slots s None h = λ some. absurd (cc)
 spans_new seen number slots s (Some lent) h = h
 
 pub sound_new : {B : Type 0} (seen : B → Seen BlockStep) (number : B → ℕ) (slots : List (Seen WordStep)) (place : ℕ) (s : Span) (first second : Option (Lent B))
-    → IsSpanFor first s slots → are_touched s (tile_of seen number first) (tile_of seen number second) ≡ true → IsOpenFor first slots place
+    → IsSpanFor first s slots →
+    are_touched s (tile_of seen number first) (tile_of seen number second) ≡ true →
+    IsOpenFor first slots place
     → IsSound slots place s (tile_of seen number first) (tile_of seen number second)
 sound_new seen number slots place s first second spans touched opened = record {
   spans = spans_new seen number slots s first spans;

@@ -2,7 +2,8 @@
 ghost use Rattle.std.specs.Prelude.{◌≡◌, ◌≤◌, ◌-◌, true, false, [], Some, is_ok, map, OnOk, OnErr};
 ghost use Rattle.cfs_slot.specs.Reads.{regions_of};
 ghost use Rattle.cfs_slot.specs.Regions.{place_of};
-ghost use Rattle.cfs_job.specs.Stands.{IsDurable, IsOpenFor, IsSound, IsSpanFor, ReadsAsNoted, StaysOutside, are_touched};
+ghost use Rattle.cfs_job.specs.Stands.{IsDurable, IsOpenFor, IsSound, IsSpanFor, ReadsAsNoted};
+ghost use Rattle.cfs_job.specs.Stands.{StaysOutside, are_touched};
 ghost use Rattle.cfs_job.specs.Steps.{one_if};
 ghost use Rattle.cfs_job.specs.Views.{anew, payload_seen};
 ghost use Rattle.cfs_job.specs.Tiles.{tile_in, tile_of};

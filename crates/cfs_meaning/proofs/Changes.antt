@@ -1,5 +1,6 @@
 -- The changes of a request make the tree of its step.
-use Rattle.std.proofs.Common.{◌≡◌, ℕ, ◌+◌, Bool, true, false, not, Option, Some, None, List, [], ◌∷◌, refl, sym, ap, ◌∙◌, inl, inr, if◌then◌else◌}
+use Rattle.std.proofs.Common.{◌≡◌, ℕ, ◌+◌, Bool, true, false, not, Option, Some, None, List, []}
+use Rattle.std.proofs.Common.{◌∷◌, refl, sym, ap, ◌∙◌, inl, inr, if◌then◌else◌}
 use Rattle.std.specs.Prelude.{Result, Ok, Err, ◌==◌, ◌||◌, nat_lt, set}
 use Rattle.std.specs.List.{list_any}
 use Rattle.std.proofs.lemmas.Bool.{and_parts, eq-eqb, eqb-true}
@@ -13,12 +14,16 @@ use Rattle.cfs_dir.specs.declared.node.Node.{Node}
 use Rattle.cfs_dir.specs.declared.place.Place.{Place}
 use Rattle.cfs_dir.specs.declared.place.Place.TheVariants.{Entry, Root}
 use Rattle.cfs_dir.specs.declared.posix.Posix.{Posix}
-use Rattle.cfs_dir.specs.declared.posix.Posix.TheVariants.{AlreadyExists, IsADirectory, PermissionDenied, TooManyFiles}
+use Rattle.cfs_dir.specs.declared.posix.Posix.TheVariants.{AlreadyExists, IsADirectory}
+use Rattle.cfs_dir.specs.declared.posix.Posix.TheVariants.{PermissionDenied, TooManyFiles}
 use Rattle.cfs_dir.specs.Change.{changed, changed_by}
 use Rattle.cfs_dir.specs.Moved.{change_of, with_move}
-use Rattle.cfs_dir.specs.Namespace.{Namespace, child_of, is_child, is_directory, node_at, placed, with_node}
-use Rattle.cfs_dir.specs.Rename.{is_node_there, move_refusal, moved_from, moved_to, moved_unless, paths_refusal, renamed, renamed_unless}
-use Rattle.cfs_dir.specs.Step.{and_then, entered, has_right, looked_up, made, made_at, new_node, path_refusal, place_of, walk, walk_from, walk_unless}
+use Rattle.cfs_dir.specs.Namespace.{Namespace, child_of, is_child, is_directory, node_at, placed}
+use Rattle.cfs_dir.specs.Namespace.{with_node}
+use Rattle.cfs_dir.specs.Rename.{is_node_there, move_refusal, moved_from, moved_to, moved_unless}
+use Rattle.cfs_dir.specs.Rename.{paths_refusal, renamed, renamed_unless}
+use Rattle.cfs_dir.specs.Step.{and_then, entered, has_right, looked_up, made, made_at, new_node}
+use Rattle.cfs_dir.specs.Step.{path_refusal, place_of, walk, walk_from, walk_unless}
 use Rattle.cfs_dir.specs.Tree.{IsTree}
 use Rattle.cfs_dir.proofs.Found.{node_at-In}
 use Rattle.cfs_dir.proofs.Grown.{is_child-parts}
@@ -31,10 +36,13 @@ use Rattle.cfs_requests.specs.declared.opening.Opening.{Opening}
 use Rattle.cfs_requests.specs.declared.opening.Opening.TheVariants.{Found, Made}
 use Rattle.cfs_requests.specs.Looks.{makes, moves, opens, removes, unless_words, unlinks}
 use Rattle.cfs_requests.specs.Opens.{found, found_when, has_access, made_or, opened, words_refusal}
-use Rattle.cfs_requests.specs.Steps.{NameAnswer, Step, close_step, closes_queue, done, make_step, makes_directory, move_step, moves_node, open_step, opens_file, remove_step, removes_directory, unlinks_file}
+use Rattle.cfs_requests.specs.Steps.{NameAnswer, Step, close_step, closes_queue, done, make_step}
+use Rattle.cfs_requests.specs.Steps.{makes_directory, move_step, moves_node, open_step, opens_file}
+use Rattle.cfs_requests.specs.Steps.{remove_step, removes_directory, unlinks_file}
 use Rattle.cfs_words.specs.declared.flags.Flags.{Flags}
 use Rattle.cfs_meaning.specs.Laws.{ChangesMakeSteps}
-use Rattle.cfs_meaning.specs.NameSteps.{Order, made_changes, moved_changes, opening_changes, removed_changes, stands}
+use Rattle.cfs_meaning.specs.NameSteps.{Order, made_changes, moved_changes, opening_changes}
+use Rattle.cfs_meaning.specs.NameSteps.{removed_changes, stands}
 
 -- ---- a node that is made has the next number
 

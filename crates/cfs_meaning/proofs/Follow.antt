@@ -5,7 +5,8 @@ use Rattle.std.specs.Prelude.{Result, Ok, Err}
 use Rattle.cfs_print.specs.declared.printed.Printed.{Printed}
 use Rattle.cfs_meaning.specs.World.{World}
 use Rattle.cfs_meaning.specs.Means.{Means}
-use Rattle.cfs_meaning.specs.Ways.{Changes, Halt, Now, Says, Way, changes, end_with, ends, follows, give, gives, halts, known, now, ◌>>=◌}
+use Rattle.cfs_meaning.specs.Ways.{Changes, Halt, Now, Says, Way, changes, end_with, ends, follows}
+use Rattle.cfs_meaning.specs.Ways.{give, gives, halts, known, now, ◌>>=◌}
 
 -- ---- one after another
 

@@ -1,5 +1,7 @@
 -- The grants of open descriptors stand.
-use Rattle.std.proofs.Common.{◌≡◌, ◌≢◌, ℕ, Bool, true, false, not, Option, Some, None, List, [], ◌∷◌, ◌++◌, map, filter, refl, sym, ap, ◌∙◌, subst, cond, if◌then◌else◌}
+use Rattle.std.proofs.Common.{◌≡◌, ◌≢◌, ℕ, Bool, true, false, not, Option, Some, None, List, []}
+use Rattle.std.proofs.Common.{◌∷◌, ◌++◌, map, filter, refl, sym, ap, ◌∙◌, subst, cond}
+use Rattle.std.proofs.Common.{if◌then◌else◌}
 use Rattle.std.specs.Prelude.{Result, Ok, Err, ◌==◌, set}
 use Rattle.std.proofs.lemmas.Bool.{eq-eqb, eqb-false, ne_eqb}
 use Rattle.cfs_dir.specs.declared.moved.Moved.{Moved}
@@ -10,7 +12,10 @@ use Rattle.cfs_cred.specs.declared.credential.Credential.{Credential}
 use Rattle.cfs_requests.specs.declared.name_refusal.NameRefusal.{NameRefusal}
 use Rattle.cfs_requests.specs.declared.opening.Opening.{Opening}
 use Rattle.cfs_requests.specs.Looks.{makes, moves, opens, removes, unlinks}
-use Rattle.cfs_requests.specs.Steps.{NameAnswer, NameRequest, Names, Step, close_step, closes_queue, granted, make_step, makes_directory, move_step, moves_node, numbered, done, open_step, opens_file, remove_step, removes_directory, unlinks_file}
+use Rattle.cfs_requests.specs.Steps.{NameAnswer, NameRequest, Names, Step, close_step, closes_queue}
+use Rattle.cfs_requests.specs.Steps.{granted, make_step, makes_directory, move_step, moves_node}
+use Rattle.cfs_requests.specs.Steps.{numbered, done, open_step, opens_file, remove_step}
+use Rattle.cfs_requests.specs.Steps.{removes_directory, unlinks_file}
 use Rattle.cfs_words.specs.declared.flags.Flags.{Flags}
 use Rattle.cfs_print.specs.declared.printed.Printed.{Printed}
 use Rattle.cfs_script.specs.declared.form.Form.{Form}
@@ -18,22 +23,29 @@ use Rattle.cfs_script.specs.declared.form.Form.TheVariants as forms
 use Rattle.cfs_meaning.specs.Drive.{Drive}
 use Rattle.cfs_meaning.specs.Mounting.{mounted_names, mounted_world, queue_count}
 use Rattle.cfs_meaning.specs.NameSteps.{Order, closing, step_of}
-use Rattle.cfs_meaning.specs.World.{Caller, Descriptor, Down, Failed, Phase, Up, World, changes_own, descriptor_in, without_descriptors}
+use Rattle.cfs_meaning.specs.World.{Caller, Descriptor, Down, Failed, Phase, Up, World, changes_own}
+use Rattle.cfs_meaning.specs.World.{descriptor_in, without_descriptors}
 use Rattle.cfs_meaning.specs.Names.{ask, ask_and_purge, open_with}
 use Rattle.cfs_meaning.specs.Files.{close, close_in, opened}
 use Rattle.cfs_meaning.specs.Laws.{is_mount}
-use Rattle.cfs_meaning.specs.Granted.{AreGranted, IsGranted, OfEach, OfEachOpen, OpenFilesAreGranted}
+use Rattle.cfs_meaning.specs.Granted.{AreGranted, IsGranted, OfEach, OfEachOpen}
+use Rattle.cfs_meaning.specs.Granted.{OpenFilesAreGranted}
 use Rattle.cfs_meaning.specs.Play.{by, does, up, while_up}
-use Rattle.cfs_meaning.specs.Ways.{Changes, Halt, Then, Way, changes, ends, follows, gives, halts, known, now, ◌>>=◌}
-use Rattle.cfs_meaning.proofs.Keeping.{Any, IsQuiet, Keeps, keep-each, keep-give, keep-look, keep-now, keep-repeats, keep-say, keep-then, keep-when}
+use Rattle.cfs_meaning.specs.Ways.{Changes, Halt, Then, Way, changes, ends, follows, gives, halts}
+use Rattle.cfs_meaning.specs.Ways.{known, now, ◌>>=◌}
+use Rattle.cfs_meaning.proofs.Keeping.{Any, IsQuiet, Keeps, keep-each, keep-give, keep-look}
+use Rattle.cfs_meaning.proofs.Keeping.{keep-now, keep-repeats, keep-say, keep-then, keep-when}
 use Rattle.cfs_meaning.proofs.KeptInode.{kept-drop, kept-settle}
 use Rattle.cfs_meaning.proofs.KeptNames.{kept-ask-purge}
 use Rattle.cfs_meaning.proofs.KeptFiles.{kept-collect, kept-lowest}
-use Rattle.cfs_meaning.proofs.KeptLines.{IsGivenIfAny, is_of_names, is_plain, keeps_grants, kept-file, kept-tree}
-use Rattle.cfs_meaning.proofs.Lines.{Mounts, Powers, kept-mounting, kept-power, kept-run, only-mount}
+use Rattle.cfs_meaning.proofs.KeptLines.{IsGivenIfAny, is_of_names, is_plain, keeps_grants}
+use Rattle.cfs_meaning.proofs.KeptLines.{kept-file, kept-tree}
+use Rattle.cfs_meaning.proofs.Lines.{Mounts, Powers, kept-mounting, kept-power, kept-run}
+use Rattle.cfs_meaning.proofs.Lines.{only-mount}
 use Rattle.cfs_meaning.proofs.Quiet.{opened-has, own-changed}
 use Rattle.cfs_meaning.proofs.Tables.{at-other, at-set, free-is}
-use Rattle.cfs_meaning.proofs.Worlds.{EndsAs, EndsIn, Logs, WorldLaw, ask-by, ask-ends, law_of, moves as stays}
+use Rattle.cfs_meaning.proofs.Worlds.{EndsAs, EndsIn, Logs, WorldLaw, ask-by, ask-ends, law_of}
+use Rattle.cfs_meaning.proofs.Worlds.{moves as stays}
 
 abbrev Table : Type 0
 Table = List (Option Grant)

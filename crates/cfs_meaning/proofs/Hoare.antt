@@ -8,7 +8,9 @@ use Rattle.cfs_print.specs.declared.printed.Printed.{Printed}
 use Rattle.cfs_meaning.specs.Drive.{Op, attempt}
 use Rattle.cfs_meaning.specs.World.{World, core_in, with_core}
 use Rattle.cfs_meaning.specs.Inode.{Comes, comes, event}
-use Rattle.cfs_meaning.specs.Ways.{Changes, Ends, Gives, Halt, Now, Then, Tries, Way, changes, end_with, ends, follows, give, gives, halts, known, now, refuse_if, steps, tried, unless_fault, ◌>>=◌}
+use Rattle.cfs_meaning.specs.Ways.{Changes, Ends, Gives, Halt, Now, Then, Tries, Way, changes}
+use Rattle.cfs_meaning.specs.Ways.{end_with, ends, follows, give, gives, halts, known, now}
+use Rattle.cfs_meaning.specs.Ways.{refuse_if, steps, tried, unless_fault, ◌>>=◌}
 use Rattle.cfs_meaning.proofs.Total.{IfEnds, weaker-ends, with_attempt}
 
 -- Where P holds before the part, Q holds behind it of its value and the world, and E where it

@@ -10,7 +10,8 @@ use Rattle.cfs_meaning.specs.World.{Descriptor, Held}
 use Rattle.cfs_meaning.specs.Inode.{admit, admit_read, apply, back, back_unless, clear_size, close_or_apply, dispatch, drop_read, finish, finish_with, flush_block, mark, next_step, open_gate, purge, retire, run_job, serve, set_size, settle, settle_doubt, skip, tag, tag_with, trim, trim_at, try_to_close, untag, write_block}
 use Rattle.cfs_meaning.proofs.Keeping.{Any, Keeps, keep-changes, keep-each, keep-end, keep-give, keep-look, keep-mends, keep-steps, keep-then, keep-tries, keep-unless, keep-when}
 use Rattle.cfs_meaning.proofs.Kept.{Law, keep-event}
-use Rattle.cfs_meaning.proofs.Quiet.{quiet-back, quiet-end, quiet-give, quiet-gone, quiet-hold, quiet-map, quiet-passed, quiet-posted, quiet-unsure}
+use Rattle.cfs_meaning.proofs.Quiet.{quiet-back, quiet-end, quiet-give, quiet-gone, quiet-hold}
+use Rattle.cfs_meaning.proofs.Quiet.{quiet-map, quiet-passed, quiet-posted, quiet-unsure}
 
 -- ---- settling
 

@@ -1,12 +1,14 @@
 -- Each line of a mounted store keeps each law, but for those that set the power or a plan, the
 -- crash and the caller's.
-use Rattle.std.proofs.Common.{◌≡◌, ℕ, Bool, true, false, Option, Some, None, List, [], ◌∷◌, ◌+◌, refl}
+use Rattle.std.proofs.Common.{◌≡◌, ℕ, Bool, true, false, Option, Some, None, List, [], ◌∷◌, ◌+◌}
+use Rattle.std.proofs.Common.{refl}
 use Rattle.std.specs.Prelude.{if◌then◌else◌}
 use Rattle.cfs_cred.specs.declared.credential.Credential.{Credential}
 use Rattle.cfs_print.specs.declared.printed.Printed.{Printed}
 use Rattle.cfs_script.specs.declared.form.Form.{Form}
 use Rattle.cfs_script.specs.declared.form.Form.TheVariants as forms
-use Rattle.cfs_requests.specs.Steps.{NameRequest, closes_queue, makes_directory, moves_node, opens_file, removes_directory, unlinks_file}
+use Rattle.cfs_requests.specs.Steps.{NameRequest, closes_queue, makes_directory, moves_node}
+use Rattle.cfs_requests.specs.Steps.{opens_file, removes_directory, unlinks_file}
 use Rattle.cfs_meaning.specs.World.{Down, Failed, Phase, Up, core_in}
 use Rattle.cfs_meaning.specs.Inode.{Absent, Behind, Ready, Verdict, verdict}
 use Rattle.cfs_print.specs.declared.printed.Printed.TheVariants.{Fine, More}

@@ -1,5 +1,6 @@
 -- The lines of power, of the crash and of callers, beside those that work on files and the tree.
-use Rattle.std.proofs.Common.{◌≡◌, ℕ, Bool, true, false, Option, Some, List, [], ◌∷◌, refl, sym, ap, subst}
+use Rattle.std.proofs.Common.{◌≡◌, ℕ, Bool, true, false, Option, Some, List, [], ◌∷◌, refl, sym, ap}
+use Rattle.std.proofs.Common.{subst}
 use Rattle.std.specs.Prelude.{Result, Ok, Err}
 use Rattle.cfs_print.specs.declared.printed.Printed.{Printed}
 use Rattle.cfs_print.specs.declared.printed.Printed.TheVariants as answers
@@ -11,9 +12,11 @@ use Rattle.cfs_print.specs.declared.out_line.OutLine.{OutLine}
 use Rattle.cfs_meaning.specs.World.{Down, Failed, Phase, Up, World, with_drive}
 use Rattle.cfs_meaning.specs.Mounting.{mount_steps}
 use Rattle.cfs_meaning.specs.Laws.{IsGiven, is_mount}
-use Rattle.cfs_meaning.specs.Play.{Run, crash_in, does, goes_on, joined, mount, mount_failed, mount_line, mounted, plan, planned, run_ends, steps_so, stopped}
+use Rattle.cfs_meaning.specs.Play.{Run, crash_in, does, goes_on, joined, mount, mount_failed}
+use Rattle.cfs_meaning.specs.Play.{mount_line, mounted, plan, planned, run_ends, steps_so, stopped}
 use Rattle.cfs_meaning.specs.Ways.{Changes, Fault, Halt, Says, ends, follows, gives, halts, now}
-use Rattle.cfs_meaning.proofs.Keeping.{Any, Base, Keeps, keep-each, keep-give, keep-known, keep-look, keep-say, keep-steps, keep-then, keep-when}
+use Rattle.cfs_meaning.proofs.Keeping.{Any, Base, Keeps, keep-each, keep-give, keep-known}
+use Rattle.cfs_meaning.proofs.Keeping.{keep-look, keep-say, keep-steps, keep-then, keep-when}
 use Rattle.cfs_meaning.proofs.KeptLines.{IsGivenIfAny, is_plain, kept-plain}
 use Rattle.cfs_meaning.proofs.Kept.{Law, Requests}
 use Rattle.cfs_meaning.proofs.Worlds.{EndsAs, WorldLaw, law_of, moves}

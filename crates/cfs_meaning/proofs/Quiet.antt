@@ -1,15 +1,20 @@
 -- Changes of a world that are quiet: no core of a file that has not ended changes.
-use Rattle.std.proofs.Common.{◌≡◌, ℕ, Bool, true, false, List, [], ◌∷◌, ◌++◌, map, filter, Option, Some, None, refl, sym, ◌∙◌, subst, cond, if◌then◌else◌}
+use Rattle.std.proofs.Common.{◌≡◌, ℕ, Bool, true, false, List, [], ◌∷◌, ◌++◌, map, filter, Option}
+use Rattle.std.proofs.Common.{Some, None, refl, sym, ◌∙◌, subst, cond, if◌then◌else◌}
 use Rattle.std.specs.Prelude.{find, unwrap_or, ◌==◌, ◌&&◌, is_none, not}
 use Rattle.std.proofs.lemmas.Bool.{eqb-true}
 use Rattle.std.proofs.lemmas.List.{length-set}
 use Rattle.cfs_core.specs.declared.inode_core.Core.{Core}
 use Rattle.cfs_dir.specs.declared.change.Change.{Change}
 use Rattle.cfs_grants.specs.declared.grant.Grant.{Grant}
-use Rattle.cfs_meaning.specs.World.{Caller, Descriptor, File, Held, Names, Queue, World, block_of, changes_own, core_in, descriptor_in, file_in, held_at, new_file, open_of, replaces, with_file, with_names, with_queue, with_descriptor, with_descriptors, empty_core}
+use Rattle.cfs_meaning.specs.World.{Caller, Descriptor, File, Held, Names, Queue, World, block_of}
+use Rattle.cfs_meaning.specs.World.{changes_own, core_in, descriptor_in, file_in, held_at, new_file}
+use Rattle.cfs_meaning.specs.World.{open_of, replaces, with_file, with_names, with_queue}
+use Rattle.cfs_meaning.specs.World.{with_descriptor, with_descriptors, empty_core}
 use Rattle.cfs_meaning.specs.Laws.{OfEachCore}
 use Rattle.cfs_meaning.specs.Granted.{OfEach, OfEachOpen}
-use Rattle.cfs_meaning.specs.Inode.{come_back, end_core, give_block, hold, map_block, take_block, with_passed, with_posted, with_size_unsure}
+use Rattle.cfs_meaning.specs.Inode.{come_back, end_core, give_block, hold, map_block, take_block}
+use Rattle.cfs_meaning.specs.Inode.{with_passed, with_posted, with_size_unsure}
 use Rattle.cfs_meaning.specs.Files.{at_position, close_in, has_no_power, move_by, move_to, moved_by}
 use Rattle.cfs_meaning.specs.Names.{doubt_settled, recorded, selected, selector_settled}
 use Rattle.cfs_meaning.specs.Workers.{Item, once_more, pass_over, pass_over_all}

@@ -1,5 +1,6 @@
 -- A step does not rest on the record that was offered, but where a node was made in it.
-use Rattle.std.proofs.Common.{◌≡◌, ℕ, Bool, true, false, Option, Some, None, List, refl, sym, ap, ◌∙◌, if◌then◌else◌}
+use Rattle.std.proofs.Common.{◌≡◌, ℕ, Bool, true, false, Option, Some, None, List, refl, sym, ap}
+use Rattle.std.proofs.Common.{◌∙◌, if◌then◌else◌}
 use Rattle.std.specs.Prelude.{Result, Ok, Err, nat_lt}
 use Rattle.cfs_cred.specs.declared.credential.Credential.{Credential}
 use Rattle.cfs_cred.specs.declared.want.Want.TheVariants.{Write}
@@ -9,7 +10,8 @@ use Rattle.cfs_dir.specs.declared.node.Node.{Node}
 use Rattle.cfs_dir.specs.declared.place.Place.{Place}
 use Rattle.cfs_dir.specs.declared.place.Place.TheVariants.{Entry, Root}
 use Rattle.cfs_dir.specs.declared.posix.Posix.{Posix}
-use Rattle.cfs_dir.specs.declared.posix.Posix.TheVariants.{AlreadyExists, PermissionDenied, TooManyFiles}
+use Rattle.cfs_dir.specs.declared.posix.Posix.TheVariants.{AlreadyExists, PermissionDenied}
+use Rattle.cfs_dir.specs.declared.posix.Posix.TheVariants.{TooManyFiles}
 use Rattle.cfs_dir.specs.Namespace.{Namespace}
 use Rattle.cfs_dir.specs.Step.{and_then, has_right, made, made_at, new_node, place_of}
 use Rattle.cfs_grants.specs.Grants.{free_queue}
@@ -18,10 +20,13 @@ use Rattle.cfs_requests.specs.declared.opening.Opening.{Opening}
 use Rattle.cfs_requests.specs.declared.opening.Opening.TheVariants.{Found, Made}
 use Rattle.cfs_requests.specs.Looks.{makes, opens, unless_words}
 use Rattle.cfs_requests.specs.Opens.{found, made_or, opened, words_refusal}
-use Rattle.cfs_requests.specs.Steps.{NameAnswer, NameRequest, closes_queue, make_step, makes_directory, moves_node, open_step, opens_file, removes_directory, unlinks_file}
+use Rattle.cfs_requests.specs.Steps.{NameAnswer, NameRequest, closes_queue, make_step}
+use Rattle.cfs_requests.specs.Steps.{makes_directory, moves_node, open_step, opens_file}
+use Rattle.cfs_requests.specs.Steps.{removes_directory, unlinks_file}
 use Rattle.cfs_requests.proofs.Takes.{makes_takes, opens_takes}
 use Rattle.cfs_words.specs.declared.flags.Flags.{Flags}
-use Rattle.cfs_meaning.specs.NameSteps.{Order, changes_of, made_changes, opening_changes, record_made, step_of}
+use Rattle.cfs_meaning.specs.NameSteps.{Order, changes_of, made_changes, opening_changes}
+use Rattle.cfs_meaning.specs.NameSteps.{record_made, step_of}
 
 -- ---- what is there already is there whatever record is offered
 

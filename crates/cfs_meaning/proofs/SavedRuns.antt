@@ -1,5 +1,6 @@
 -- Behind a crash what is recovered stays so until the next mount.
-use Rattle.std.proofs.Common.{◌≡◌, ℕ, ◌<◌, Bool, true, false, Option, List, [], ◌∷◌, length, get_or, refl, sym, ap, ◌∙◌, subst, arith, if◌then◌else◌}
+use Rattle.std.proofs.Common.{◌≡◌, ℕ, ◌<◌, Bool, true, false, Option, List, [], ◌∷◌, length, get_or}
+use Rattle.std.proofs.Common.{refl, sym, ap, ◌∙◌, subst, arith, if◌then◌else◌}
 use Rattle.std.specs.Prelude.{Result, Ok, Err}
 use Rattle.std.specs.List.{All}
 use Rattle.cfs_pmem.specs.declared.pick.Pick.{Pick}
@@ -8,7 +9,8 @@ use Rattle.cfs_pmem.specs.declared.trace.Asked.TheVariants.{Stopped}
 use Rattle.cfs_pmem.specs.Draws.{pick_of}
 use Rattle.cfs_pmem.specs.Images.{Seen, WordStep}
 use Rattle.cfs_block.specs.BlockImages.{BlockStep}
-use Rattle.cfs_image.specs.Crash.{after_block_of, after_region, after_regions, block_left_of, blocks_left, region_left, regions_left}
+use Rattle.cfs_image.specs.Crash.{after_block_of, after_region, after_regions, block_left_of}
+use Rattle.cfs_image.specs.Crash.{blocks_left, region_left, regions_left}
 use Rattle.cfs_print.specs.declared.printed.Printed.{Printed}
 use Rattle.cfs_print.specs.declared.out_line.OutLine.{OutLine}
 use Rattle.cfs_script.specs.declared.form.Form.{Form}
@@ -19,11 +21,15 @@ use Rattle.cfs_meaning.specs.Drive.{Drive}
 use Rattle.cfs_meaning.specs.World.{Down, Failed, Phase, Up, World}
 use Rattle.cfs_meaning.specs.Files.{has_no_power}
 use Rattle.cfs_meaning.specs.Laws.{AreReached, is_mount}
-use Rattle.cfs_meaning.specs.Devices.{CrashedRunsRecover, CrashesRecover, IsEven, IsEvenBlock, IsEvenRegion, IsRecovered, IsSaved, IsShown}
-use Rattle.cfs_meaning.specs.Play.{Step, crash_in, crashed, does, goes_on, plan, run_ends, steps_so, stopped, told, up, while_up}
+use Rattle.cfs_meaning.specs.Devices.{CrashedRunsRecover, CrashesRecover, IsEven, IsEvenBlock}
+use Rattle.cfs_meaning.specs.Devices.{IsEvenRegion, IsRecovered, IsSaved, IsShown}
+use Rattle.cfs_meaning.specs.Play.{Step, crash_in, crashed, does, goes_on, plan, run_ends, steps_so}
+use Rattle.cfs_meaning.specs.Play.{stopped, told, up, while_up}
 use Rattle.cfs_meaning.specs.Ways.{Halt, Way}
-use Rattle.cfs_meaning.proofs.Hoare.{Leaves, leave-changes, leave-end, leave-give, leave-known, leave-look, leave-then, leave-weaker}
-use Rattle.cfs_meaning.proofs.ShownCrash.{block-left, crash-ends, crashes-leave-less, left-at, left-length, tree-less}
+use Rattle.cfs_meaning.proofs.Hoare.{Leaves, leave-changes, leave-end, leave-give, leave-known}
+use Rattle.cfs_meaning.proofs.Hoare.{leave-look, leave-then, leave-weaker}
+use Rattle.cfs_meaning.proofs.ShownCrash.{block-left, crash-ends, crashes-leave-less, left-at}
+use Rattle.cfs_meaning.proofs.ShownCrash.{left-length, tree-less}
 use Rattle.cfs_meaning.proofs.ShownFiles.{files-map, shown-files-recover}
 use Rattle.cfs_meaning.proofs.Total.{IfEnds}
 

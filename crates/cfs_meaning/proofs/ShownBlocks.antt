@@ -1,5 +1,7 @@
 -- A job's steps on the blocks of a file keep a world shown by its devices.
-use Rattle.std.proofs.Common.{◌≡◌, ◌≢◌, ℕ, ◌+◌, ◌*◌, ◌<◌, Bool, true, false, Option, Some, None, List, length, get_or, set, refl, sym, ap, ◌∙◌, subst, if◌then◌else◌, arith}
+use Rattle.std.proofs.Common.{◌≡◌, ◌≢◌, ℕ, ◌+◌, ◌*◌, ◌<◌, Bool, true, false, Option, Some, None}
+use Rattle.std.proofs.Common.{List, length, get_or, set, refl, sym, ap, ◌∙◌, subst, if◌then◌else◌}
+use Rattle.std.proofs.Common.{arith}
 use Rattle.std.specs.Prelude.{◌==◌, unwrap_or}
 use Rattle.std.specs.List.{All}
 use Rattle.std.specs.Option.{option_map}
@@ -19,8 +21,10 @@ use Rattle.cfs_medium.specs.World as media
 use Rattle.cfs_medium.specs.WorldCalls.{with_block}
 use Rattle.cfs_meaning.specs.Drive.{Drive, block_at}
 use Rattle.cfs_meaning.specs.World.{File, World, block_of, file_in, find_file, new_file, with_core}
-use Rattle.cfs_meaning.specs.Devices.{AreApart, IsEvenBlock, IsFileShown, IsPlaced, IsShown, OfEachFile, devices_of_file}
-use Rattle.cfs_meaning.proofs.ShownFiles.{files-both, files-map, found-in, replaced-but, still-apart}
+use Rattle.cfs_meaning.specs.Devices.{AreApart, IsEvenBlock, IsFileShown, IsPlaced, IsShown}
+use Rattle.cfs_meaning.specs.Devices.{OfEachFile, devices_of_file}
+use Rattle.cfs_meaning.proofs.ShownFiles.{files-both, files-map, found-in, replaced-but}
+use Rattle.cfs_meaning.proofs.ShownFiles.{still-apart}
 
 -- ---- one block changes
 

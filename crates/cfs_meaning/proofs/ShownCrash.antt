@@ -1,5 +1,7 @@
 -- A crash leaves less than could be left before.
-use Rattle.std.proofs.Common.{◌≡◌, ℕ, zero, suc, ◌+◌, ◌%◌, ◌<◌, Bool, true, false, ◌&&◌, Option, Some, None, List, [], ◌∷◌, length, map, take, get_or, inl, inr, refl, sym, ap, ◌∙◌, subst, arith, ⊎_elim}
+use Rattle.std.proofs.Common.{◌≡◌, ℕ, zero, suc, ◌+◌, ◌%◌, ◌<◌, Bool, true, false, ◌&&◌, Option}
+use Rattle.std.proofs.Common.{Some, None, List, [], ◌∷◌, length, map, take, get_or, inl, inr, refl}
+use Rattle.std.proofs.Common.{sym, ap, ◌∙◌, subst, arith, ⊎_elim}
 use Rattle.std.specs.Prelude.{Result, nat_le, nat_lt}
 use Rattle.std.specs.List.{All}
 use Rattle.std.specs.Option.{option_map}
@@ -13,10 +15,12 @@ use Rattle.cfs_pmem.specs.Objects.{IsEachImage}
 use Rattle.cfs_pmem.proofs.Crashes.{each_left_at, left_word, length-each_left}
 use Rattle.cfs_pmem.proofs.ImageLemmas as regions
 use Rattle.cfs_pmem.proofs.MemRegions as memory
-use Rattle.cfs_block.specs.BlockImages.{BlockStep, Content, IsBlockImage, MayHaveByte, MayHaveTag, content_kept, content_now, flushed, ranged, stalled, tagged}
+use Rattle.cfs_block.specs.BlockImages.{BlockStep, Content, IsBlockImage, MayHaveByte, MayHaveTag}
+use Rattle.cfs_block.specs.BlockImages.{content_kept, content_now, flushed, ranged, stalled, tagged}
 use Rattle.cfs_block.specs.Written.{block_left, is_written}
 use Rattle.cfs_block.proofs.BlockLemmas.{byte_kept, byte_now, only_kept, tag_kept, tag_now}
-use Rattle.cfs_image.specs.Crash.{after_block_of, after_region, after_regions, all_left, block_left_of, blocks_left, region_left, regions_left}
+use Rattle.cfs_image.specs.Crash.{after_block_of, after_region, after_regions, all_left}
+use Rattle.cfs_image.specs.Crash.{block_left_of, blocks_left, region_left, regions_left}
 use Rattle.cfs_medium.specs.World.{IsImageAt, MayRemain, Remains}
 use Rattle.cfs_meaning.specs.Drive.{Drive, block_at, region_at}
 use Rattle.cfs_meaning.specs.World.{File, World, block_of, devices_of, held_at}
@@ -25,7 +29,8 @@ use Rattle.cfs_print.specs.declared.printed.Printed.{Printed}
 use Rattle.cfs_script.specs.declared.form.Form.TheVariants as forms
 use Rattle.cfs_meaning.specs.Play.{crash_in, crashed, does}
 use Rattle.cfs_meaning.specs.Ways.{Halt, changes, ends, follows, gives}
-use Rattle.cfs_meaning.specs.Devices.{CrashesLeaveLess, IsEven, IsEvenBlock, IsEvenRegion, IsTreeShown, devices_of_file}
+use Rattle.cfs_meaning.specs.Devices.{CrashesLeaveLess, IsEven, IsEvenBlock, IsEvenRegion}
+use Rattle.cfs_meaning.specs.Devices.{IsTreeShown, devices_of_file}
 
 -- ---- one object
 
@@ -66,8 +71,10 @@ block-left seen pick even =
     let next : ℕ → Pick → ℕ → ℕ → Pick = λ k. after_byte (is_written seen.history k) in
     let size = length-each_left left next after 0 (content_kept seen.history).bytes
     (content_now seen.history).bytes same in
-    let some : 0 < length (content_now seen.history).bytes = (let is = even.1 in omega (arith, is)) in
-    let was : 0 < length (content_kept seen.history).bytes = (let is = even.0 in omega (arith, is)) in
+    let some : 0 < length (content_now seen.history).bytes =
+    (let is = even.1 in omega (arith, is)) in
+    let was : 0 < length (content_kept seen.history).bytes =
+    (let is = even.0 in omega (arith, is)) in
     record {
       size = size;
       bytes = λ k low.

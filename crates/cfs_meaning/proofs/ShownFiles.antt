@@ -1,5 +1,7 @@
 -- Worlds that their devices show, where one file changes.
-use Rattle.std.proofs.Common.{◌≡◌, ◌≢◌, ℕ, ◌+◌, Bool, true, false, Option, Some, None, List, [], ◌∷◌, length, map, refl, sym, ap, ◌∙◌, subst, cond, if◌then◌else◌, arith}
+use Rattle.std.proofs.Common.{◌≡◌, ◌≢◌, ℕ, ◌+◌, Bool, true, false, Option, Some, None, List, []}
+use Rattle.std.proofs.Common.{◌∷◌, length, map, refl, sym, ap, ◌∙◌, subst, cond, if◌then◌else◌}
+use Rattle.std.proofs.Common.{arith}
 use Rattle.std.specs.Prelude.{find, unwrap_or, ◌==◌}
 use Rattle.std.proofs.lemmas.Bool.{eqb-false, ne_eqb}
 use Rattle.cfs_core.specs.declared.event.Event.{Event}
@@ -13,8 +15,10 @@ use Rattle.cfs_pmem.specs.declared.trace.Asked.{Asked}
 use Rattle.cfs_medium.specs.Shows.{Shows}
 use Rattle.cfs_medium.specs.World as media
 use Rattle.cfs_medium.proofs.LiveLeft.{shown-recovers}
-use Rattle.cfs_meaning.specs.World.{File, Held, World, core_in, file_in, find_file, new_file, replaces, with_core, with_file}
-use Rattle.cfs_meaning.specs.Devices.{AllApart, AreApart, IsFileShown, IsPlaced, IsRecovered, IsShown, OfEachFile, ShownFilesRecover, devices_of_file}
+use Rattle.cfs_meaning.specs.World.{File, Held, World, core_in, file_in, find_file, new_file}
+use Rattle.cfs_meaning.specs.World.{replaces, with_core, with_file}
+use Rattle.cfs_meaning.specs.Devices.{AllApart, AreApart, IsFileShown, IsPlaced, IsRecovered}
+use Rattle.cfs_meaning.specs.Devices.{IsShown, OfEachFile, ShownFilesRecover, devices_of_file}
 use Rattle.cfs_meaning.specs.Laws.{OfEachCore}
 
 -- ---- each file

@@ -1,9 +1,12 @@
 -- The steps of a job keep a world shown by its devices.
-use Rattle.std.proofs.Common.{◌≡◌, ℕ, ◌+◌, ◌-◌, ◌*◌, ◌<◌, ◌≤◌, Bool, true, false, not, Option, Some, None, List, [], ◌∷◌, length, map, reverse, take, drop, get_or, refl, sym, ap, ◌∙◌, subst, if◌then◌else◌, arith}
+use Rattle.std.proofs.Common.{◌≡◌, ℕ, ◌+◌, ◌-◌, ◌*◌, ◌<◌, ◌≤◌, Bool, true, false, not, Option, Some}
+use Rattle.std.proofs.Common.{None, List, [], ◌∷◌, length, map, reverse, take, drop, get_or, refl}
+use Rattle.std.proofs.Common.{sym, ap, ◌∙◌, subst, if◌then◌else◌, arith}
 use Rattle.std.specs.Prelude.{Ok, Err, ◌==◌, find, unwrap_or, nat_lt, max, min, slice_get}
 use Rattle.std.specs.Option.{option_map}
 use Rattle.std.proofs.lemmas.Bool.{and_parts, ltb-true}
-use Rattle.std.proofs.lemmas.List.{get_or-set_same, length-take, length-drop, length-replicate, set-get_or}
+use Rattle.std.proofs.lemmas.List.{get_or-set_same, length-take, length-drop, length-replicate}
+use Rattle.std.proofs.lemmas.List.{set-get_or}
 use Rattle.cfs_file.specs.declared.span.Span.{Span}
 use Rattle.cfs_file.specs.declared.span.Span.TheVariants.{From, Nothing, Range}
 use Rattle.cfs_file.specs.declared.sizes.TheConstants.{BLOCK_LEN, FILE_BLOCKS}
@@ -13,7 +16,8 @@ use Rattle.cfs_core.specs.declared.inode_core.Core.{Core}
 use Rattle.cfs_core.specs.declared.state.Lease.{Lease}
 use Rattle.cfs_core.specs.After.{after}
 use Rattle.cfs_core.specs.May.{case, is_in_phase, may, may_flush}
-use Rattle.cfs_core.specs.Words.{blank, end_in, has_block, is_live, payload, payload_at, piece_in, start_in, start_of, track}
+use Rattle.cfs_core.specs.Words.{blank, end_in, has_block, is_live, payload, payload_at, piece_in}
+use Rattle.cfs_core.specs.Words.{start_in, start_of, track}
 use Rattle.cfs_core.proofs.Goods.{good-kept}
 use Rattle.cfs_core.proofs.Alive.{block_lives}
 use Rattle.cfs_core.proofs.Kept.{at}
@@ -35,7 +39,9 @@ use Rattle.cfs_pmem.specs.WordOps.{get}
 use Rattle.cfs_pmem.proofs.AskLemmas.{asks_one}
 use Rattle.cfs_pmem.proofs.MomentLemmas.{begun}
 use Rattle.cfs_pmem.proofs.Patches.{length-patched, patched_same}
-use Rattle.cfs_block.specs.BlockImages.{BlockStep, Content, DiffersWithin, IsBlockImage, IsRangedFrom, content_of, ranged, unwritten, with_bytes, wrote}
+use Rattle.cfs_block.specs.BlockImages.{BlockStep, Content, DiffersWithin, IsBlockImage}
+use Rattle.cfs_block.specs.BlockImages.{IsRangedFrom, content_of, ranged, unwritten, with_bytes}
+use Rattle.cfs_block.specs.BlockImages.{wrote}
 use Rattle.cfs_block.specs.BlockOps.{BlockOp, block_done, flush, get_bytes, put_bytes}
 use Rattle.cfs_block.proofs.BlockMoments.{on_flush, on_stall, on_torn, on_write}
 use Rattle.cfs_medium.specs.Shows.{Shows}
@@ -43,13 +49,17 @@ use Rattle.cfs_medium.specs.WorldCalls.{with_block}
 use Rattle.cfs_medium.proofs.FlushEvents.{flushes-show}
 use Rattle.cfs_medium.proofs.WriteEvents.{writes-show}
 use Rattle.cfs_slot.specs.Payload.{SlotRead, payload_reads}
-use Rattle.cfs_meaning.specs.Drive.{Attempt, Block, Drive, Op, Word, attempt, block_at, block_refused, content_at, is_allowed, made, noted, refused}
-use Rattle.cfs_meaning.specs.World.{File, World, block_of, core_in, devices_of, file_in, find_file, held_at, new_file, with_core}
+use Rattle.cfs_meaning.specs.Drive.{Attempt, Block, Drive, Op, Word, attempt, block_at}
+use Rattle.cfs_meaning.specs.Drive.{block_refused, content_at, is_allowed, made, noted, refused}
+use Rattle.cfs_meaning.specs.World.{File, World, block_of, core_in, devices_of, file_in, find_file}
+use Rattle.cfs_meaning.specs.World.{held_at, new_file, with_core}
 use Rattle.cfs_meaning.specs.Devices.{IsEvenBlock, IsPlaced, IsShown, devices_of_file}
-use Rattle.cfs_meaning.specs.Inode.{apply, flush_block, leases_at, next_step, part_read, what_is_left, write_block}
+use Rattle.cfs_meaning.specs.Inode.{apply, flush_block, leases_at, next_step, part_read}
+use Rattle.cfs_meaning.specs.Inode.{what_is_left, write_block}
 use Rattle.cfs_meaning.specs.Laws.{AreReached}
 use Rattle.cfs_meaning.specs.Ways.{steps}
-use Rattle.cfs_meaning.proofs.Hoare.{Leaves, leave-event, leave-give, leave-look, leave-then, leave-tries, leave-unless, leave-weaker}
+use Rattle.cfs_meaning.proofs.Hoare.{Leaves, leave-event, leave-give, leave-look, leave-then}
+use Rattle.cfs_meaning.proofs.Hoare.{leave-tries, leave-unless, leave-weaker}
 use Rattle.cfs_meaning.proofs.Quiet.{file-has}
 use Rattle.cfs_meaning.proofs.Reached.{empty-reached}
 use Rattle.cfs_meaning.proofs.ShownBlocks.{block-shown, mapped-has, with_seen}
@@ -504,7 +514,8 @@ written-core world ino place k false work job has_it may_be =
     let is : content_of seen ≡ with_bytes (from_in core place k) left (content_of seen) =
     ap (λ bytes. record { tag = (content_of seen).tag; bytes = bytes })
     (sym (patched_same (content_of seen).bytes (from_in core place k)
-    (length (piece_of core place k)) (let within = sized.within in let is = job.full.1 in omega (arith, within, is)))) in
+    (length (piece_of core place k))
+    (let within = sized.within in let is = job.full.1 in omega (arith, within, is)))) in
     (writes-show (file_in world ino).ino (length core.log + 2) place k (from_in core place k)
     (Some left) left core (devices_of_file world.drive (file_in world ino)) seen
     (unwritten (from_in core place k) (length (piece_of core place k)) seen) [] _

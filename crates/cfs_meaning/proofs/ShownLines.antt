@@ -1,5 +1,6 @@
 -- Lines that keep a world shown by its devices.
-use Rattle.std.proofs.Common.{◌≡◌, ℕ, ◌+◌, Bool, true, false, Option, ◌∷◌, length, refl, sym, subst, if◌then◌else◌}
+use Rattle.std.proofs.Common.{◌≡◌, ℕ, ◌+◌, Bool, true, false, Option, ◌∷◌, length, refl, sym, subst}
+use Rattle.std.proofs.Common.{if◌then◌else◌}
 use Rattle.std.specs.Prelude.{Result, Ok, Err}
 use Rattle.cfs_file.specs.declared.entry.Entry.{Entry}
 use Rattle.cfs_file.specs.declared.request.Request.{Request}
@@ -13,19 +14,24 @@ use Rattle.cfs_script.specs.declared.form.Form.{Form}
 use Rattle.cfs_script.specs.declared.form.Form.TheVariants as forms
 use Rattle.cfs_words.specs.declared.device.Device.{Device}
 use Rattle.cfs_words.specs.declared.seek.Seek.{Seek}
-use Rattle.cfs_meaning.specs.World.{Descriptor, Down, Failed, Phase, Up, World, core_in, descriptor_in, file_in, with_file}
-use Rattle.cfs_meaning.specs.Inode.{Absent, Behind, Ready, Verdict, admit_read, dispatch, verdict, with_passed}
-use Rattle.cfs_meaning.specs.Files.{has_no_power, list_queue, lseek, most_read, opened, opened_to_read, post}
+use Rattle.cfs_meaning.specs.World.{Descriptor, Down, Failed, Phase, Up, World, core_in}
+use Rattle.cfs_meaning.specs.World.{descriptor_in, file_in, with_file}
+use Rattle.cfs_meaning.specs.Inode.{Absent, Behind, Ready, Verdict, admit_read, dispatch, verdict}
+use Rattle.cfs_meaning.specs.Inode.{with_passed}
+use Rattle.cfs_meaning.specs.Files.{has_no_power, list_queue, lseek, most_read, opened}
+use Rattle.cfs_meaning.specs.Files.{opened_to_read, post}
 use Rattle.cfs_meaning.specs.Workers.{apply_line, dispatch_by, dispatch_line, there}
 use Rattle.cfs_meaning.specs.Devices.{IsShown, Suits, LinesKeepShown, keeps_shown}
 use Rattle.cfs_meaning.specs.Laws.{AreReached, is_mount}
 use Rattle.cfs_meaning.specs.Play.{does, plan, steps_so, stopped, while_up}
 use Rattle.cfs_meaning.specs.Ways.{Halt, Now, now}
-use Rattle.cfs_meaning.proofs.Hoare.{Leaves, leave-changes, leave-end, leave-event, leave-look, leave-refuse, leave-then, leave-weaker}
+use Rattle.cfs_meaning.proofs.Hoare.{Leaves, leave-changes, leave-end, leave-event, leave-look}
+use Rattle.cfs_meaning.proofs.Hoare.{leave-refuse, leave-then, leave-weaker}
 use Rattle.cfs_meaning.proofs.Lines.{mount-up, only-mount}
 use Rattle.cfs_meaning.proofs.ShownJobs.{AtWork, apply-shown}
 use Rattle.cfs_meaning.proofs.ShownFiles.{asked-shown, event-shown, file-shown}
-use Rattle.cfs_meaning.proofs.ShownParts.{Keeps, any-give, any-known, any-look, any-refuse, keep-told, keep-up, moved-shown, same-shown}
+use Rattle.cfs_meaning.proofs.ShownParts.{Keeps, any-give, any-known, any-look, any-refuse}
+use Rattle.cfs_meaning.proofs.ShownParts.{keep-told, keep-up, moved-shown, same-shown}
 use Rattle.cfs_meaning.proofs.ShownReads.{read-line, serve-line, sync-line}
 use Rattle.cfs_meaning.proofs.Total.{IfEnds}
 

@@ -1,12 +1,14 @@
 -- Parts of lines that keep a world shown by its devices.
-use Rattle.std.proofs.Common.{◌≡◌, ℕ, Bool, true, false, Option, Some, None, refl, sym, subst, if◌then◌else◌}
+use Rattle.std.proofs.Common.{◌≡◌, ℕ, Bool, true, false, Option, Some, None, refl, sym, subst}
+use Rattle.std.proofs.Common.{if◌then◌else◌}
 use Rattle.cfs_print.specs.declared.printed.Printed.{Printed}
 use Rattle.cfs_meaning.specs.World.{Descriptor, Down, Failed, Phase, Up, World, with_descriptor}
 use Rattle.cfs_meaning.specs.Files.{at_position, has_no_power, moved_by}
 use Rattle.cfs_meaning.specs.Devices.{IsShown}
 use Rattle.cfs_meaning.specs.Play.{told, up, while_up}
 use Rattle.cfs_meaning.specs.Ways.{Now, Way, give, known, refuse_if, ◌>>=◌}
-use Rattle.cfs_meaning.proofs.Hoare.{Leaves, leave-end, leave-give, leave-known, leave-look, leave-refuse, leave-then, leave-weaker}
+use Rattle.cfs_meaning.proofs.Hoare.{Leaves, leave-end, leave-give, leave-known, leave-look}
+use Rattle.cfs_meaning.proofs.Hoare.{leave-refuse, leave-then, leave-weaker}
 
 -- the part keeps a world shown, however it ends
 abbrev pub Keeps : {A : Type 0} → Way A → Type 0

@@ -1,5 +1,7 @@
 -- Lines that only read keep a world shown by its devices.
-use Rattle.std.proofs.Common.{◌≡◌, ℕ, zero, suc, ◌+◌, ◌-◌, Bool, true, false, ◌&&◌, ◌||◌, Option, Some, None, List, [], ◌∷◌, ◌++◌, length, map, get_or, refl, sym, ap, ◌∙◌, subst, inl, inr, if◌then◌else◌}
+use Rattle.std.proofs.Common.{◌≡◌, ℕ, zero, suc, ◌+◌, ◌-◌, Bool, true, false, ◌&&◌, ◌||◌, Option}
+use Rattle.std.proofs.Common.{Some, None, List, [], ◌∷◌, ◌++◌, length, map, get_or, refl, sym, ap}
+use Rattle.std.proofs.Common.{◌∙◌, subst, inl, inr, if◌then◌else◌}
 use Rattle.std.specs.Prelude.{Result, Ok, Err, ◌==◌, find, unwrap_or}
 use Rattle.std.specs.List.{flat_map, list_any, range_with_len}
 use Rattle.std.specs.Option.{option_to_list}
@@ -24,13 +26,21 @@ use Rattle.cfs_medium.proofs.QuietEvents.{quiet-events-show}
 use Rattle.cfs_medium.proofs.ReadEvents.{reads-may-come}
 use Rattle.cfs_print.specs.declared.printed.Printed.{Printed}
 use Rattle.cfs_meaning.specs.Drive.{Block, Op}
-use Rattle.cfs_meaning.specs.World.{Descriptor, Down, Failed, File, Phase, Up, World, block_of, core_in, descriptor_in, file_in, find_file, new_file, with_core}
-use Rattle.cfs_meaning.specs.Inode.{Ready, admit_read, drop_read, first_of, holder, serve, serve_verdict}
-use Rattle.cfs_meaning.specs.Files.{Defers, clear_way, defers, faults, in_the_way, move_by, opened, opened_to_read, read_or_sync, say_served, serve_helped, serve_posted, serves}
+use Rattle.cfs_meaning.specs.World.{Descriptor, Down, Failed, File, Phase, Up, World, block_of}
+use Rattle.cfs_meaning.specs.World.{core_in, descriptor_in, file_in, find_file, new_file, with_core}
+use Rattle.cfs_meaning.specs.Inode.{Ready, admit_read, drop_read, first_of, holder, serve}
+use Rattle.cfs_meaning.specs.Inode.{serve_verdict}
+use Rattle.cfs_meaning.specs.Files.{Defers, clear_way, defers, faults, in_the_way, move_by, opened}
+use Rattle.cfs_meaning.specs.Files.{opened_to_read, read_or_sync, say_served, serve_helped}
+use Rattle.cfs_meaning.specs.Files.{serve_posted, serves}
 use Rattle.cfs_meaning.specs.Devices.{IsShown, NothingLive}
 use Rattle.cfs_meaning.specs.Play.{up, while_up}
-use Rattle.cfs_meaning.specs.Ways.{Fault, Halt, Mends, Repeats, Says, Waits, Way, breaks, breaks_later, counts, mends, rests, says, steps, waits, well, ◌>>=◌}
-use Rattle.cfs_meaning.proofs.Hoare.{Leaves, leave-changes, leave-end, leave-event, leave-give, leave-known, leave-look, leave-refuse, leave-then, leave-tries, leave-unless, leave-weaker}
+use Rattle.cfs_meaning.specs.Ways.{Fault, Halt, Mends, Repeats, Says, Waits, Way, breaks}
+use Rattle.cfs_meaning.specs.Ways.{breaks_later, counts, mends, rests, says, steps, waits, well}
+use Rattle.cfs_meaning.specs.Ways.{◌>>=◌}
+use Rattle.cfs_meaning.proofs.Hoare.{Leaves, leave-changes, leave-end, leave-event, leave-give}
+use Rattle.cfs_meaning.proofs.Hoare.{leave-known, leave-look, leave-refuse, leave-then, leave-tries}
+use Rattle.cfs_meaning.proofs.Hoare.{leave-unless, leave-weaker}
 use Rattle.cfs_meaning.proofs.ShownFiles.{asked-shown, event-shown, files-map, none-replaced}
 use Rattle.cfs_meaning.proofs.ShownJobs.{AreReads, IsAskedOf, reads-only}
 use Rattle.cfs_meaning.proofs.ShownParts.{Keeps, any-give, any-look, moved-shown, same-shown}

@@ -1,5 +1,6 @@
 -- Tables of grants: what a queue has once it is granted or given back.
-use Rattle.std.proofs.Common.{ℕ, zero, suc, ◌+◌, ◌≡◌, ◌≢◌, ◌<◌, List, [], ◌∷◌, length, Option, Some, None, refl, ap, subst, arith}
+use Rattle.std.proofs.Common.{ℕ, zero, suc, ◌+◌, ◌≡◌, ◌≢◌, ◌<◌, List, [], ◌∷◌, length, Option, Some}
+use Rattle.std.proofs.Common.{None, refl, ap, subst, arith}
 use Rattle.std.specs.Prelude.{set}
 use Rattle.cfs_grants.specs.declared.grant.Grant.{Grant}
 use Rattle.cfs_grants.specs.Grants.{free_from, free_queue, grant_at}

@@ -1,5 +1,6 @@
 -- Parts of lines that come to an end from each world where something holds.
-use Rattle.std.proofs.Common.{◌≡◌, ℕ, zero, suc, ◌<◌, Bool, true, false, List, [], ◌∷◌, Option, Some, None, refl, arith}
+use Rattle.std.proofs.Common.{◌≡◌, ℕ, zero, suc, ◌<◌, Bool, true, false, List, [], ◌∷◌, Option}
+use Rattle.std.proofs.Common.{Some, None, refl, arith}
 use Rattle.std.specs.Prelude.{Result, Ok, Err}
 use Rattle.cfs_core.specs.declared.event.Event.{Event}
 use Rattle.cfs_core.specs.May.{may}
@@ -8,7 +9,10 @@ use Rattle.cfs_print.specs.declared.printed.Printed.{Printed}
 use Rattle.cfs_meaning.specs.Drive.{Op, attempt}
 use Rattle.cfs_meaning.specs.World.{World, core_in, with_core}
 use Rattle.cfs_meaning.specs.Inode.{comes, event}
-use Rattle.cfs_meaning.specs.Ways.{Changes, Halt, Now, Repeats, Shrugs, Then, Tries, Way, breaks, breaks_later, changes, choose, counts, each, end_with, ends, follows, give, gives, halts, known, now, only_if, refuse_if, rests, shrugs, steps, tried, unless_fault, when, whole, ◌>>=◌}
+use Rattle.cfs_meaning.specs.Ways.{Changes, Halt, Now, Repeats, Shrugs, Then, Tries, Way, breaks}
+use Rattle.cfs_meaning.specs.Ways.{breaks_later, changes, choose, counts, each, end_with, ends}
+use Rattle.cfs_meaning.specs.Ways.{follows, give, gives, halts, known, now, only_if, refuse_if}
+use Rattle.cfs_meaning.specs.Ways.{rests, shrugs, steps, tried, unless_fault, when, whole, ◌>>=◌}
 
 -- what holds behind a part: with its value, or where it ended the line
 abbrev pub IfEnds : {A : Type 0} → (A → World → Type 0) → (World → Type 0) → Result A Halt → World →

@@ -1,5 +1,6 @@
 -- Lines that have an answer.
-use Rattle.std.proofs.Common.{◌≡◌, ℕ, ◌+◌, Bool, true, false, not, ◌&&◌, Option, Some, None, length, refl, sym, ap, ◌∙◌, subst}
+use Rattle.std.proofs.Common.{◌≡◌, ℕ, ◌+◌, Bool, true, false, not, ◌&&◌, Option, Some, None, length}
+use Rattle.std.proofs.Common.{refl, sym, ap, ◌∙◌, subst}
 use Rattle.std.specs.Prelude.{◌==◌, is_some}
 use Rattle.std.proofs.lemmas.Bool.{eq-eqb}
 use Rattle.cfs_file.specs.declared.request.Request.{Request}
@@ -9,14 +10,16 @@ use Rattle.cfs_core.specs.declared.inode_core.Core.{Core}
 use Rattle.cfs_core.specs.May.{is_query, may, may_dispatch}
 use Rattle.cfs_core.specs.Words.{is_noop, track}
 use Rattle.cfs_cred.specs.declared.credential.Credential.{Credential}
-use Rattle.cfs_requests.specs.Steps.{makes_directory, moves_node, opens_file, removes_directory, unlinks_file}
+use Rattle.cfs_requests.specs.Steps.{makes_directory, moves_node, opens_file, removes_directory}
+use Rattle.cfs_requests.specs.Steps.{unlinks_file}
 use Rattle.cfs_print.specs.declared.printed.Printed.{Printed}
 use Rattle.cfs_script.specs.declared.form.Form.{Form}
 use Rattle.cfs_script.specs.declared.form.Form.TheVariants as forms
 use Rattle.cfs_words.specs.declared.device.Device.{Device}
 use Rattle.cfs_words.specs.declared.seek.Seek.{Seek}
 use Rattle.cfs_meaning.specs.World.{Descriptor, Down, Failed, Phase, Up, World, core_in}
-use Rattle.cfs_meaning.specs.Inode.{Absent, Behind, Ready, Verdict, admit_read, dispatch, settle, settle_doubt, skip, verdict}
+use Rattle.cfs_meaning.specs.Inode.{Absent, Behind, Ready, Verdict, admit_read, dispatch, settle}
+use Rattle.cfs_meaning.specs.Inode.{settle_doubt, skip, verdict}
 use Rattle.cfs_meaning.specs.Files.{list_queue, lseek, opened, opened_to_read, post}
 use Rattle.cfs_meaning.specs.Workers.{dispatch_by, dispatch_line, settle_line, skip_line}
 use Rattle.cfs_meaning.specs.Mounting.{mount_steps}
@@ -25,9 +28,13 @@ use Rattle.cfs_meaning.specs.Play.{by, does, mount, mount_line, plan, printed, s
 use Rattle.cfs_meaning.specs.Ways.{Way}
 use Rattle.cfs_meaning.proofs.Keeping.{AreUncrashed}
 use Rattle.cfs_meaning.proofs.Quiet.{core-up}
-use Rattle.cfs_meaning.proofs.Total.{Total, total-changes, total-each, total-end, total-event, total-give, total-look, total-refuse, total-then, total-tries, total-unless, total-weaker, total-when}
-use Rattle.cfs_meaning.proofs.TotalNames.{Ever, Free, True, free-from, free-steps, total-ask, total-ask-purge, total-made, total-named, total-open}
-use Rattle.cfs_meaning.proofs.TotalParts.{Sound, any-known, any-refuse, total-any, total-now, total-there, total-told, total-up}
+use Rattle.cfs_meaning.proofs.Total.{Total, total-changes, total-each, total-end, total-event}
+use Rattle.cfs_meaning.proofs.Total.{total-give, total-look, total-refuse, total-then, total-tries}
+use Rattle.cfs_meaning.proofs.Total.{total-unless, total-weaker, total-when}
+use Rattle.cfs_meaning.proofs.TotalNames.{Ever, Free, True, free-from, free-steps, total-ask}
+use Rattle.cfs_meaning.proofs.TotalNames.{total-ask-purge, total-made, total-named, total-open}
+use Rattle.cfs_meaning.proofs.TotalParts.{Sound, any-known, any-refuse, total-any, total-now}
+use Rattle.cfs_meaning.proofs.TotalParts.{total-there, total-told, total-up}
 use Rattle.cfs_meaning.proofs.TotalTrims.{total-trim-line}
 use Rattle.cfs_meaning.proofs.Uncrashed.{mounted-up, runs-up}
 use Rattle.cfs_meaning.proofs.Verdicts.{ready-may}

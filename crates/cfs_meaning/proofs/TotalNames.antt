@@ -1,5 +1,6 @@
 -- What is done to the tree comes to an end.
-use Rattle.std.proofs.Common.{◌≡◌, ℕ, ◌+◌, Bool, true, false, Option, Some, None, List, [], ◌∷◌, subst, if◌then◌else◌}
+use Rattle.std.proofs.Common.{◌≡◌, ℕ, ◌+◌, Bool, true, false, Option, Some, None, List, [], ◌∷◌}
+use Rattle.std.proofs.Common.{subst, if◌then◌else◌}
 use Rattle.std.specs.Prelude.{Result, Ok, Err, ◌==◌, nat_lt, not}
 use Rattle.std.proofs.lemmas.Bool.{lt-ltb}
 use Rattle.cfs_dir.specs.declared.change.Change.{Change}
@@ -11,17 +12,24 @@ use Rattle.cfs_requests.specs.declared.name_refusal.NameRefusal.{NameRefusal}
 use Rattle.cfs_requests.specs.declared.opening.Opening.{Opening}
 use Rattle.cfs_requests.specs.declared.opening.Opening.TheVariants.{Found, Made}
 use Rattle.cfs_requests.specs.Looks.{makes, moves, opens, removes, unlinks}
-use Rattle.cfs_requests.specs.Steps.{NameAnswer, NameRequest, Step, closes_queue, done, granted, make_step, makes_directory, moves_node, numbered, open_step, opens_file, removes_directory, unlinks_file}
+use Rattle.cfs_requests.specs.Steps.{NameAnswer, NameRequest, Step, closes_queue, done, granted}
+use Rattle.cfs_requests.specs.Steps.{make_step, makes_directory, moves_node, numbered, open_step}
+use Rattle.cfs_requests.specs.Steps.{opens_file, removes_directory, unlinks_file}
 use Rattle.cfs_cred.specs.declared.credential.Credential.{Credential}
 use Rattle.cfs_words.specs.declared.flags.Flags.{Flags}
-use Rattle.cfs_meaning.specs.NameSteps.{Order, changes_of, made_changes, moved_changes, opening_changes, removed_changes, stands, step_of}
+use Rattle.cfs_meaning.specs.NameSteps.{Order, changes_of, made_changes, moved_changes}
+use Rattle.cfs_meaning.specs.NameSteps.{opening_changes, removed_changes, stands, step_of}
 use Rattle.cfs_meaning.specs.World.{World, file_in}
 use Rattle.cfs_meaning.specs.Inode.{clear_size, is_size_right, purge, untag}
-use Rattle.cfs_meaning.specs.Names.{ask, ask_and_purge, checkpoint, dying, free_record, open_with, purge_all, say_made, say_named, step_in, store_change}
+use Rattle.cfs_meaning.specs.Names.{ask, ask_and_purge, checkpoint, dying, free_record, open_with}
+use Rattle.cfs_meaning.specs.Names.{purge_all, say_made, say_named, step_in, store_change}
 use Rattle.cfs_meaning.specs.Answered.{HasRoom}
 use Rattle.cfs_meaning.specs.Drive.{Op}
 use Rattle.cfs_meaning.specs.Ways.{Halt, Way, each, steps}
-use Rattle.cfs_meaning.proofs.Total.{IfEnds, Total, total-changes, total-each, total-give, total-known, total-look, total-only, total-shrugs, total-steps, total-then, total-tries, total-unless, total-weaker, total-when}
+use Rattle.cfs_meaning.proofs.Total.{IfEnds, Total, total-changes, total-each, total-give}
+use Rattle.cfs_meaning.proofs.Total.{total-known, total-look, total-only, total-shrugs, total-steps}
+use Rattle.cfs_meaning.proofs.Total.{total-then, total-tries, total-unless, total-weaker}
+use Rattle.cfs_meaning.proofs.Total.{total-when}
 
 abbrev pub True : World → Type 0
 True world = Unit {0}

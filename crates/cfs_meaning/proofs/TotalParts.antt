@@ -7,7 +7,8 @@ use Rattle.cfs_meaning.specs.Workers.{there}
 use Rattle.cfs_meaning.specs.Play.{told, up, while_up}
 use Rattle.cfs_meaning.specs.Ways.{Now, Way, known, now, refuse_if, ◌>>=◌}
 use Rattle.cfs_meaning.proofs.Keeping.{AreUncrashed}
-use Rattle.cfs_meaning.proofs.Total.{Total, total-end, total-give, total-known, total-look, total-refuse, total-then, total-weaker}
+use Rattle.cfs_meaning.proofs.Total.{Total, total-end, total-give, total-known, total-look}
+use Rattle.cfs_meaning.proofs.Total.{total-refuse, total-then, total-weaker}
 use Rattle.cfs_meaning.proofs.TotalNames.{Ever, True}
 
 abbrev pub Sound : World → Type 0

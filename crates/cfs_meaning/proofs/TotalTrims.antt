@@ -1,5 +1,7 @@
 -- Blocks are given up until none is left.
-use Rattle.std.proofs.Common.{◌≡◌, ℕ, zero, suc, ◌<◌, Bool, true, false, not, ◌&&◌, Option, Some, None, List, [], ◌∷◌, map, get_or, set, refl, sym, ap, ◌∙◌, subst, cond, if◌then◌else◌, arith}
+use Rattle.std.proofs.Common.{◌≡◌, ℕ, zero, suc, ◌<◌, Bool, true, false, not, ◌&&◌, Option, Some}
+use Rattle.std.proofs.Common.{None, List, [], ◌∷◌, map, get_or, set, refl, sym, ap, ◌∙◌, subst}
+use Rattle.std.proofs.Common.{cond, if◌then◌else◌, arith}
 use Rattle.std.specs.Prelude.{◌==◌, find, unwrap_or, replicate, nat_lt}
 use Rattle.std.specs.List.{range_with_len}
 use Rattle.std.proofs.lemmas.Bool.{and_parts, eq-eqb, eqb-false, eqb-true, ne_eqb}
@@ -12,12 +14,15 @@ use Rattle.cfs_core.specs.After.{after}
 use Rattle.cfs_core.specs.May.{may_trim}
 use Rattle.cfs_core.specs.Words.{is_off}
 use Rattle.cfs_core_laws.proofs.Finds.{find-passes}
-use Rattle.cfs_meaning.specs.World.{File, World, block_of, core_in, file_in, find_file, new_file, replaces, with_core}
+use Rattle.cfs_meaning.specs.World.{File, World, block_of, core_in, file_in, find_file, new_file}
+use Rattle.cfs_meaning.specs.World.{replaces, with_core}
 use Rattle.cfs_meaning.specs.Inode.{give_block, trim, trim_at, without_block}
 use Rattle.cfs_meaning.specs.Workers.{trim_line}
 use Rattle.cfs_meaning.specs.Ways.{Repeats, unless_fault}
 use Rattle.cfs_meaning.proofs.Quiet.{core-up, replaced-up}
-use Rattle.cfs_meaning.proofs.Total.{Falls, Total, total-changes, total-end, total-event, total-give, total-look, total-repeats, total-then, total-tries, total-weaker}
+use Rattle.cfs_meaning.proofs.Total.{Falls, Total, total-changes, total-end, total-event}
+use Rattle.cfs_meaning.proofs.Total.{total-give, total-look, total-repeats, total-then, total-tries}
+use Rattle.cfs_meaning.proofs.Total.{total-weaker}
 use Rattle.cfs_meaning.proofs.TotalNames.{Ever, True}
 use Rattle.cfs_meaning.proofs.TotalParts.{Sound, total-there}
 use Rattle.cfs_meaning.proofs.Uncrashed.{after-up}

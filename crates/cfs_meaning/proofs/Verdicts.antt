@@ -1,5 +1,7 @@
 -- An entry with nothing in its way may be dispatched.
-use Rattle.std.proofs.Common.{◌≡◌, ℕ, zero, suc, ◌+◌, ◌-◌, ◌<◌, Bool, true, false, not, ◌&&◌, ◌||◌, Option, Some, None, List, [], ◌∷◌, ◌++◌, length, map, take, get_or, refl, sym, ap, ◌∙◌, subst, if◌then◌else◌, arith}
+use Rattle.std.proofs.Common.{◌≡◌, ℕ, zero, suc, ◌+◌, ◌-◌, ◌<◌, Bool, true, false, not, ◌&&◌, ◌||◌}
+use Rattle.std.proofs.Common.{Option, Some, None, List, [], ◌∷◌, ◌++◌, length, map, take, get_or}
+use Rattle.std.proofs.Common.{refl, sym, ap, ◌∙◌, subst, if◌then◌else◌, arith}
 use Rattle.std.specs.Option.{option_to_list}
 use Rattle.std.specs.List.{list_any}
 use Rattle.std.proofs.lemmas.Bool.{or_parts}
@@ -13,7 +15,8 @@ use Rattle.cfs_core.specs.May.{has_live_in, has_read_in, may_dispatch}
 use Rattle.cfs_core.specs.Words.{blank, has_block, is_live, is_unserved, is_waiting, track}
 use Rattle.cfs_core_laws.proofs.Finds.{find-none}
 use Rattle.cfs_core_laws.proofs.Lent.{track-next}
-use Rattle.cfs_meaning.specs.Inode.{Absent, Ready, Verdict, first_before, first_of, holder, leases, verdict}
+use Rattle.cfs_meaning.specs.Inode.{Absent, Ready, Verdict, first_before, first_of, holder, leases}
+use Rattle.cfs_meaning.specs.Inode.{verdict}
 
 -- ---- tests of lists
 

@@ -1,5 +1,6 @@
 -- When the devices of a store show a world: each image of them fits it.
-use Rattle.std.specs.Prelude.{◌≡◌, ◌≢◌, ℕ, ◌+◌, ◌<◌, Bool, true, false, Some, List, [], ◌∷◌, length, map, take}
+use Rattle.std.specs.Prelude.{◌≡◌, ◌≢◌, ℕ, ◌+◌, ◌<◌, Bool, true, false, Some, List, [], ◌∷◌, length}
+use Rattle.std.specs.Prelude.{map, take}
 use Rattle.std.specs.List.{All, Contains, list_any}
 use Rattle.std.specs.Option.{option_map}
 use Rattle.cfs_file.specs.declared.sizes.TheConstants.{BLOCK_LEN}
@@ -19,7 +20,8 @@ use Rattle.cfs_print.specs.declared.out_line.OutLine.{OutLine}
 use Rattle.cfs_meaning.specs.Drive.{Drive, block_at, region_at}
 use Rattle.cfs_meaning.specs.NameSteps.{tree_of}
 use Rattle.cfs_meaning.specs.Steps.{size_word}
-use Rattle.cfs_meaning.specs.World.{Descriptor, File, Up, World, block_of, core_in, descriptor_in, devices_of, file_in, held_at}
+use Rattle.cfs_meaning.specs.World.{Descriptor, File, Up, World, block_of, core_in, descriptor_in}
+use Rattle.cfs_meaning.specs.World.{devices_of, file_in, held_at}
 use Rattle.cfs_meaning.specs.Laws.{AreReached, HaveNoMount}
 use Rattle.cfs_meaning.specs.Play.{Run, Step, crashed}
 

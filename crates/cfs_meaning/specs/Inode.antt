@@ -33,7 +33,9 @@ use Rattle.cfs_block.specs.BlockOps.{flush, get_bytes, put_bytes}
 use Rattle.cfs_medium.specs.Store.{tag_of}
 use Rattle.cfs_meaning.specs.Drive.{Block, Op, Word, content_at}
 use Rattle.cfs_meaning.specs.Steps.{gate_closed, gate_opened, marked, offset_set, payload_read, size_word, slot, tag_kept}
-use Rattle.cfs_meaning.specs.World.{Descriptor, File, Held, Queue, World, all_placed, block_of, core_in, devices_of, file_in, head_of, held_at, placed, with_core, with_descriptors, with_file, with_queue, without}
+use Rattle.cfs_meaning.specs.World.{Descriptor, File, Held, Queue, World, all_placed, block_of}
+use Rattle.cfs_meaning.specs.World.{core_in, devices_of, file_in, head_of, held_at, placed}
+use Rattle.cfs_meaning.specs.World.{with_core, with_descriptors, with_file, with_queue, without}
 use Rattle.cfs_meaning.specs.Ways.{Changes, Fault, Halt, Mends, Now, Tries, Way, done, each, end_with, give, steps, unless_fault, when, ◌>>=◌, ◌>>◌}
 
 -- An event comes to the core of a file. One that may not come has no way.

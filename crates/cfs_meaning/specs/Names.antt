@@ -15,7 +15,8 @@ use Rattle.cfs_print.specs.declared.printed.Printed.{Printed}
 use Rattle.cfs_print.specs.declared.printed.Printed.TheVariants.{Made, Named, NoNumber, NoQueue, NoRecord, Opened, Refused, RefusedAt}
 use Rattle.cfs_meaning.specs.Drive.{words_at}
 use Rattle.cfs_meaning.specs.Steps.{appended, on_tables, record_closed, selector}
-use Rattle.cfs_meaning.specs.NameSteps.{Order, changes_of, record_made, refusal_of, step_of, tree_of}
+use Rattle.cfs_meaning.specs.NameSteps.{Order, changes_of, record_made, refusal_of, step_of}
+use Rattle.cfs_meaning.specs.NameSteps.{tree_of}
 use Rattle.cfs_meaning.specs.World.{Descriptor, File, Names, World, caller_in, is_in_tree, is_open, is_used, new_file, open_of, with_descriptors, with_names}
 use Rattle.cfs_meaning.specs.Inode.{purge}
 use Rattle.cfs_meaning.specs.Ways.{Changes, Now, Shrugs, Tries, Way, each, give, known, never, only_if, steps, unless_fault, when, ◌>>=◌, ◌>>◌}

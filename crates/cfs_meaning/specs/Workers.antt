@@ -1,5 +1,7 @@
 -- The lines of workers, and the choice of the next piece of work.
-use Rattle.std.specs.Prelude.{ℕ, ◌+◌, ◌==◌, Bool, true, false, not, ◌&&◌, ◌||◌, if◌then◌else◌, min, Option, Some, None, List, [], ◌∷◌, length, filter, nat_lt, is_none, is_some}
+use Rattle.std.specs.Prelude.{ℕ, ◌+◌, ◌==◌, Bool, true, false, not, ◌&&◌, ◌||◌, if◌then◌else◌, min}
+use Rattle.std.specs.Prelude.{Option, Some, None, List, [], ◌∷◌, length, filter, nat_lt, is_none}
+use Rattle.std.specs.Prelude.{is_some}
 use Rattle.std.specs.List.{flat_map, list_any, range_with_len}
 use Rattle.cfs_file.specs.Span.{meets}
 use Rattle.cfs_core.specs.declared.inode_core.Core.{Core}

@@ -1,9 +1,12 @@
 //! What holds of every run, as contracts of functions that do nothing.
 
 ghost use Rattle.cfs_meaning.specs.Answered.{LinesHaveAnswers};
-ghost use Rattle.cfs_meaning.specs.Devices.{CrashedRunsRecover, CrashesLeaveLess, CrashesRecover, LinesKeepShown, ShownFilesRecover};
+ghost use Rattle.cfs_meaning.specs.Devices.{CrashedRunsRecover, CrashesLeaveLess, CrashesRecover};
+ghost use Rattle.cfs_meaning.specs.Devices.{LinesKeepShown, ShownFilesRecover};
 ghost use Rattle.cfs_meaning.specs.Granted.{OpenFilesAreGranted};
-ghost use Rattle.cfs_meaning.specs.Laws.{AnswersAreOnly, CalmRunsAnswer, ChangesMakeSteps, CoresStayReached, FilesAreGood, LogsFollowLines, NamesStayLegal, ReadsAreRight, RunsKeepCores};
+ghost use Rattle.cfs_meaning.specs.Laws.{AnswersAreOnly, CalmRunsAnswer, ChangesMakeSteps};
+ghost use Rattle.cfs_meaning.specs.Laws.{CoresStayReached, FilesAreGood, LogsFollowLines};
+ghost use Rattle.cfs_meaning.specs.Laws.{NamesStayLegal, ReadsAreRight, RunsKeepCores};
 
 /// While a store is mounted, each line makes of the core of each file one that the laws of cores
 /// hold of: so each file's log is legal, and a read is answered by the file before it.

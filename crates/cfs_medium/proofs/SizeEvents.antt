@@ -59,10 +59,12 @@ still_a_size core new s is = rw (any_more core.sizes s core.size) (reorder (s ==
     reorder false false true h = refl
     reorder false false false h = cc
 
-pub new_is_a_size : (new : ℕ) (others : List ℕ) → ((new == new) || list_any (λ k. new == k) others) ≡ true
+pub new_is_a_size : (new : ℕ) (others : List ℕ) →
+    ((new == new) || list_any (λ k. new == k) others) ≡ true
 new_is_a_size new others = let same : (new == new) ≡ true = grind (arith, nat_tests) in rw same refl
 
-pub first_set : (words : List ℕ) (word : ℕ) → 0 < length words → get_or (set words 0 word) 0 0 ≡ word
+pub first_set : (words : List ℕ) (word : ℕ) → 0 < length words →
+    get_or (set words 0 word) 0 0 ≡ word
 first_set words word some = get_or-set_same words 0 word 0 some
 
 pub sizes-show : SizesShow

@@ -65,7 +65,8 @@ among-apart entry (suc n) a once =
         let place : later.0 ≡ a = once later.0 a e first later.1.1 here same in
         omega (arith, place, later.1.0)
 
-pub same-among : (f g : ℕ → Option (ℕ × Request)) → ((at : ℕ) → f at ≡ g at) → (n a : ℕ) → filter_map f (range_with_len a n) ≡ filter_map g (range_with_len a n)
+pub same-among : (f g : ℕ → Option (ℕ × Request)) → ((at : ℕ) → f at ≡ g at) → (n a : ℕ) →
+    filter_map f (range_with_len a n) ≡ filter_map g (range_with_len a n)
 same-among f g same zero a = refl
 same-among f g same (suc n) a =
     ap (λ (o : Option (ℕ × Request)). cons_option o (filter_map f (range_with_len (a + 1) n))) (same a)
@@ -76,7 +77,8 @@ same-among f g same (suc n) a =
 pub not_live-none : (ino : ℕ) (words : List ℕ) (tails : List (List ℕ)) → is_live ino words ≡ false → live_entry ino words tails ≡ None
 not_live-none ino words tails is = ap (λ (b : Bool). if b then Some (gate_of words, request_of words tails) else None) is
 
-pub past-none : (ino : ℕ) (slots : List (List ℕ)) (at : ℕ) → length slots ≤ at → entry_at ino slots at ≡ None
+pub past-none : (ino : ℕ) (slots : List (List ℕ)) (at : ℕ) → length slots ≤ at →
+    entry_at ino slots at ≡ None
 past-none ino slots at past =
     let empty : get_or slots at [] ≡ [] = get_or_past slots at [] past in
     not_live-none ino (get_or slots at []) (tails_at slots at) (ap (λ (words : List ℕ). is_live ino words) empty)

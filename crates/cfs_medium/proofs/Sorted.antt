@@ -84,7 +84,8 @@ rises-by_gate (first ∷ rest) apart =
 
 -- ---- lists whose gates rise
 
-pub at_least : (low : ℕ) (xs : List (ℕ × Request)) (e : ℕ × Request) → Rises low (gates xs) → Has xs e → low ≤ e.0
+pub at_least : (low : ℕ) (xs : List (ℕ × Request)) (e : ℕ × Request) → Rises low (gates xs) →
+    Has xs e → low ≤ e.0
 at_least low [] e rises h = absurd h
 at_least low (first ∷ rest) e rises h = elim h [
   | inl same ↦ rw same rises.0

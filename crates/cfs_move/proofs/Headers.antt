@@ -1,5 +1,6 @@
 -- What the checks of an old image say.
-use Rattle.std.proofs.Common.{ℕ, ◌+◌, ◌*◌, ◌≤◌, ◌≡◌, ◌==◌, nat_le, if◌then◌else◌, Bool, true, false, List, [], ◌∷◌, length, drop, get_or, Some, None, refl, arith}
+use Rattle.std.proofs.Common.{ℕ, ◌+◌, ◌*◌, ◌≤◌, ◌≡◌, ◌==◌, nat_le, if◌then◌else◌, Bool, true, false}
+use Rattle.std.proofs.Common.{List, [], ◌∷◌, length, drop, get_or, Some, None, refl, arith}
 use Rattle.std.proofs.lemmas.Bool.Decides.{nat_tests}
 use Rattle.cfs_image.specs.declared.layout.TheConstants.{NAME}
 use Rattle.cfs_image.specs.declared.refusal.ImageRefusal.{ImageRefusal}
@@ -11,10 +12,13 @@ use Rattle.cfs_image.specs.Checks.{Check, Damage, NamesFirst, check, checks_of, 
 use Rattle.cfs_move.specs.Refusals.{IsOldSound, NamesOldDamage}
 
 -- a check that holds, and those behind it
-passed : (check : Check) (rest : List Check) → damage_of (check ∷ rest) ≡ None → (check.holds ≡ true) × (damage_of rest ≡ None)
+passed : (check : Check) (rest : List Check) → damage_of (check ∷ rest) ≡ None →
+    (check.holds ≡ true) × (damage_of rest ≡ None)
 passed check rest none = split check.holds check.damage rest none
   where
-    split : (holds : Bool) (damage : Damage) (rest : List Check) → (if holds then damage_of rest else Some damage) ≡ None → (holds ≡ true) × (damage_of rest ≡ None)
+    split : (holds : Bool) (damage : Damage) (rest : List Check) →
+        (if holds then damage_of rest else Some damage) ≡ None →
+        (holds ≡ true) × (damage_of rest ≡ None)
     split true damage rest none = (refl, none)
     split false damage rest none = absurd (cc)
 
@@ -30,14 +34,22 @@ pub record IsOldHeaded (bytes : List ℕ) : Type 0 where
 pub old_headed : (bytes : List ℕ) → IsOldSound bytes → IsOldHeaded bytes
 old_headed bytes sound =
     let cs : List Check = checks_of First bytes in
-    let room : (nat_le 32 (length bytes) ≡ true) × (damage_of (drop 1 cs) ≡ None) = passed (get_or cs 0 (check true 0 0 0)) (drop 1 cs) sound in
-    let name : ((word_at bytes 0 == NAME) ≡ true) × (damage_of (drop 2 cs) ≡ None) = passed (get_or cs 1 (check true 0 0 0)) (drop 2 cs) room.1 in
-    let version : ((word_at bytes 8 == 1) ≡ true) × (damage_of (drop 3 cs) ≡ None) = passed (get_or cs 2 (check true 0 0 0)) (drop 3 cs) name.1 in
-    let fewest_blocks : (nat_le 16 (word_at bytes 16) ≡ true) × (damage_of (drop 4 cs) ≡ None) = passed (get_or cs 3 (check true 0 0 0)) (drop 4 cs) version.1 in
-    let most_blocks : (nat_le (word_at bytes 16) 16384 ≡ true) × (damage_of (drop 5 cs) ≡ None) = passed (get_or cs 4 (check true 0 0 0)) (drop 5 cs) fewest_blocks.1 in
-    let fewest_queues : (nat_le 1 (word_at bytes 24) ≡ true) × (damage_of (drop 6 cs) ≡ None) = passed (get_or cs 5 (check true 0 0 0)) (drop 6 cs) most_blocks.1 in
-    let most_queues : (nat_le (word_at bytes 24) 64 ≡ true) × (damage_of (drop 7 cs) ≡ None) = passed (get_or cs 6 (check true 0 0 0)) (drop 7 cs) fewest_queues.1 in
-    let size : ((length bytes == due_len First bytes) ≡ true) × (damage_of (drop 8 cs) ≡ None) = passed (get_or cs 7 (check true 0 0 0)) (drop 8 cs) most_queues.1 in
+    let room : (nat_le 32 (length bytes) ≡ true) × (damage_of (drop 1 cs) ≡ None) =
+    passed (get_or cs 0 (check true 0 0 0)) (drop 1 cs) sound in
+    let name : ((word_at bytes 0 == NAME) ≡ true) × (damage_of (drop 2 cs) ≡ None) =
+    passed (get_or cs 1 (check true 0 0 0)) (drop 2 cs) room.1 in
+    let version : ((word_at bytes 8 == 1) ≡ true) × (damage_of (drop 3 cs) ≡ None) =
+    passed (get_or cs 2 (check true 0 0 0)) (drop 3 cs) name.1 in
+    let fewest_blocks : (nat_le 16 (word_at bytes 16) ≡ true) × (damage_of (drop 4 cs) ≡ None) =
+    passed (get_or cs 3 (check true 0 0 0)) (drop 4 cs) version.1 in
+    let most_blocks : (nat_le (word_at bytes 16) 16384 ≡ true) × (damage_of (drop 5 cs) ≡ None) =
+    passed (get_or cs 4 (check true 0 0 0)) (drop 5 cs) fewest_blocks.1 in
+    let fewest_queues : (nat_le 1 (word_at bytes 24) ≡ true) × (damage_of (drop 6 cs) ≡ None) =
+    passed (get_or cs 5 (check true 0 0 0)) (drop 6 cs) most_blocks.1 in
+    let most_queues : (nat_le (word_at bytes 24) 64 ≡ true) × (damage_of (drop 7 cs) ≡ None) =
+    passed (get_or cs 6 (check true 0 0 0)) (drop 7 cs) fewest_queues.1 in
+    let size : ((length bytes == due_len First bytes) ≡ true) × (damage_of (drop 8 cs) ≡ None) =
+    passed (get_or cs 7 (check true 0 0 0)) (drop 8 cs) most_queues.1 in
     record {
       room = grind (arith, nat_tests, room.0);
       name = grind (arith, nat_tests, name.0);
@@ -49,6 +61,7 @@ old_headed bytes sound =
     }
 
 -- a refusal of the checks names the damage of an old image
-pub names_old : (bytes : List ℕ) (refusal : ImageRefusal) → NamesFirst First bytes refusal → NamesOldDamage bytes refusal
+pub names_old : (bytes : List ℕ) (refusal : ImageRefusal) → NamesFirst First bytes refusal →
+    NamesOldDamage bytes refusal
 names_old bytes (Damaged offset found against) names = names
 names_old bytes NoMemory names = absurd names

@@ -1,5 +1,6 @@
 -- Where the bytes of each device of an old image stand in the new one.
-use Rattle.std.specs.Prelude.{ℕ, ◌+◌, ◌-◌, ◌*◌, ◌≡◌, nat_lt, List, [], ◌++◌, length, take, drop, if◌then◌else◌}
+use Rattle.std.specs.Prelude.{ℕ, ◌+◌, ◌-◌, ◌*◌, ◌≡◌, nat_lt, List, [], ◌++◌, length, take, drop}
+use Rattle.std.specs.Prelude.{if◌then◌else◌}
 use Rattle.byteorder.specs.Endian.{little_bytes}
 use Rattle.cfs_image.specs.declared.layout.TheConstants.{VERSION}
 use Rattle.cfs_image.specs.declared.version.Version.TheVariants.{First}

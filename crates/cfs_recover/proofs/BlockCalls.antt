@@ -1,6 +1,9 @@
 -- One call on one of the blocks.
-use Rattle.std.proofs.Common.{Bool, ℕ, zero, suc, ◌+◌, ◌-◌, ◌<◌, ◌≤◌, ◌≡◌, ◌∙◌, Result, Ok, Err, OnOk, OnErr, List, [], ◌∷◌, ◌++◌, take, drop, length, map, get_or, set, inl, inr, refl, sym, ap, subst, arith}
-use Rattle.std.proofs.lemmas.List.{get_or-map, get_or-set_same, length-drop, length-map, length-take-le, take_more, map-set, set-get_or, set-set}
+use Rattle.std.proofs.Common.{Bool, ℕ, zero, suc, ◌+◌, ◌-◌, ◌<◌, ◌≤◌, ◌≡◌, ◌∙◌, Result, Ok, Err}
+use Rattle.std.proofs.Common.{OnOk, OnErr, List, [], ◌∷◌, ◌++◌, take, drop, length, map, get_or}
+use Rattle.std.proofs.Common.{set, inl, inr, refl, sym, ap, subst, arith}
+use Rattle.std.proofs.lemmas.List.{get_or-map, get_or-set_same, length-drop, length-map}
+use Rattle.std.proofs.lemmas.List.{length-take-le, take_more, map-set, set-get_or, set-set}
 use Rattle.cfs_file.specs.declared.request.Request.{Request}
 use Rattle.cfs_pmem.specs.declared.trace.Asked.{Asked}
 use Rattle.cfs_pmem.specs.AllMoments.{AreDistinct}
@@ -12,7 +15,9 @@ use Rattle.cfs_pmem.specs.Objects.{IsEachImage, IsImageBut, MomentsOf, all_devic
 use Rattle.cfs_pmem.proofs.AllMomentLemmas.{all_after, all_at_end, all_weaker}
 use Rattle.cfs_pmem.proofs.MomentLemmas.{begun, extended}
 use Rattle.cfs_pmem.proofs.ObjectLemmas.{map-see-set, one_of, seen_at-map}
-use Rattle.cfs_block.specs.BlockImages.{AllBlockImages, BlockStep, Content, DiffersWithin, IsBlockImage, IsRangedFrom, WriteFails, content_of, kept, unflushed, wrote}
+use Rattle.cfs_block.specs.BlockImages.{AllBlockImages, BlockStep, Content, DiffersWithin}
+use Rattle.cfs_block.specs.BlockImages.{IsBlockImage, IsRangedFrom, WriteFails, content_of, kept}
+use Rattle.cfs_block.specs.BlockImages.{unflushed, wrote}
 use Rattle.cfs_block.proofs.BlockLemmas.{all_torn, all_wrote}
 use Rattle.cfs_block.proofs.BlockMoments.{on_flush, on_stall}
 use Rattle.cfs_slot.specs.Payload.{HaveCause, NoneFell}
@@ -20,7 +25,8 @@ use Rattle.cfs_medium.specs.Depicts.{content_at}
 use Rattle.cfs_home.specs.Calls.{IsPiece}
 use Rattle.cfs_home.specs.Disks.{BlocksBeside}
 use Rattle.cfs_home.proofs.Calls.{but-has, but-other, but-within, pieces-beside}
-use Rattle.cfs_recover.specs.Pieces.{LeavesBeside, LiesWithin, bytes_of, with_flush, with_flushes, with_write, with_writes}
+use Rattle.cfs_recover.specs.Pieces.{LeavesBeside, LiesWithin, bytes_of, with_flush, with_flushes}
+use Rattle.cfs_recover.specs.Pieces.{with_write, with_writes}
 use Rattle.cfs_recover.specs.declared.piece.Piece.{Piece}
 
 -- ---- lists with one block changed

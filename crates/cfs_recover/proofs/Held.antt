@@ -1,8 +1,10 @@
 -- What stands in the blocks once the pieces of a request are written.
-use Rattle.std.proofs.Common.{ℕ, ◌+◌, ◌-◌, ◌*◌, ◌/◌, ◌%◌, ◌<◌, ◌≤◌, ◌≡◌, ◌∙◌, ◌⊎◌, List, [], ◌∷◌, drop, length, map, get_or, set, inl, inr, refl, sym, ap, subst, arith}
+use Rattle.std.proofs.Common.{ℕ, ◌+◌, ◌-◌, ◌*◌, ◌/◌, ◌%◌, ◌<◌, ◌≤◌, ◌≡◌, ◌∙◌, ◌⊎◌, List, [], ◌∷◌}
+use Rattle.std.proofs.Common.{drop, length, map, get_or, set, inl, inr, refl, sym, ap, subst, arith}
 use Rattle.std.proofs.Math.ListN.{get_or-map}
 use Rattle.std.proofs.lemmas.Bool.{cases_lt}
-use Rattle.std.proofs.lemmas.List.{get_or-drop, get_or-set_other, get_or-set_same, get_or-take, length-drop, length-set, length-take-le, set_past}
+use Rattle.std.proofs.lemmas.List.{get_or-drop, get_or-set_other, get_or-set_same, get_or-take}
+use Rattle.std.proofs.lemmas.List.{length-drop, length-set, length-take-le, set_past}
 use Rattle.cfs_file.specs.declared.request.Request.{Request}
 use Rattle.cfs_file.specs.declared.sizes.TheConstants.{BLOCK_LEN, FILE_BLOCKS}
 use Rattle.cfs_core.proofs.Order.{same_or_not}
@@ -14,8 +16,10 @@ use Rattle.cfs_medium.specs.Depicts.{IsFor, content_at}
 use Rattle.cfs_medium.specs.Store.{tag_of}
 use Rattle.cfs_home.specs.Parts.{own_byte}
 use Rattle.cfs_recover.specs.declared.piece.Piece.{Piece}
-use Rattle.cfs_recover.specs.Pieces.{LiesWithin, bytes_of, with_flush, with_flushes, with_write, with_writes}
-use Rattle.cfs_recover.specs.Held.{AllBring, AllLieWithin, AreFull, Brings, IsInPiece, PiecesHold, SomeHas}
+use Rattle.cfs_recover.specs.Pieces.{LiesWithin, bytes_of, with_flush, with_flushes, with_write}
+use Rattle.cfs_recover.specs.Pieces.{with_writes}
+use Rattle.cfs_recover.specs.Held.{AllBring, AllLieWithin, AreFull, Brings, IsInPiece, PiecesHold}
+use Rattle.cfs_recover.specs.Held.{SomeHas}
 
 abbrev content_in : List (Seen BlockStep) → ℕ → Content
 content_in blocks at = content_of (seen_at blocks at)

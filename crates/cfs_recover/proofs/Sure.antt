@@ -1,10 +1,12 @@
 -- Each block that was written is flushed, and the others stay as they are.
-use Rattle.std.proofs.Common.{ℕ, suc, ◌<◌, ◌≡◌, ◌∙◌, ◌⊎◌, List, [], ◌∷◌, length, map, set, inl, inr, refl, sym, ap, subst, arith}
+use Rattle.std.proofs.Common.{ℕ, suc, ◌<◌, ◌≡◌, ◌∙◌, ◌⊎◌, List, [], ◌∷◌, length, map, set, inl, inr}
+use Rattle.std.proofs.Common.{refl, sym, ap, subst, arith}
 use Rattle.std.proofs.lemmas.List.{get_or-set_other, get_or-set_same, length-set}
 use Rattle.cfs_core.proofs.Order.{same_or_not}
 use Rattle.cfs_pmem.specs.Images.{Seen}
 use Rattle.cfs_pmem.specs.Objects.{IsEachImage, seen_at}
-use Rattle.cfs_block.specs.BlockImages.{BlockStep, Content, IsBlockImage, IsSureBlock, content_of, kept, wrote}
+use Rattle.cfs_block.specs.BlockImages.{BlockStep, Content, IsBlockImage, IsSureBlock, content_of}
+use Rattle.cfs_block.specs.BlockImages.{kept, wrote}
 use Rattle.cfs_block.proofs.BlockLemmas.{sure_kept}
 use Rattle.cfs_recover.specs.declared.piece.Piece.{Piece}
 use Rattle.cfs_recover.specs.Held.{AllLieWithin}

@@ -6,7 +6,8 @@ ghost use Rattle.cfs_pmem.specs.Objects.{all_devices};
 ghost use Rattle.cfs_block.specs.BlockImages.{Content};
 ghost use Rattle.cfs_slot.specs.Payload.{HaveCause};
 ghost use Rattle.cfs_home.specs.Calls.{IsPiece};
-ghost use Rattle.cfs_recover.specs.Pieces.{ArePieces, LeavesBeside, LiesWithin, with_flush, with_flushes, with_write, with_writes};
+ghost use Rattle.cfs_recover.specs.Pieces.{ArePieces, LeavesBeside, LiesWithin, with_flush};
+ghost use Rattle.cfs_recover.specs.Pieces.{with_flushes, with_write, with_writes};
 
 use crate::piece::Piece;
 use cfs_block::Block;

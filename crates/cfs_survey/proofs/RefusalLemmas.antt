@@ -21,13 +21,17 @@ pub refused_with : {T : Type 0} (r : Result T SurveyRefusal) (checks : List Chec
 refused_with r checks y refusal e same h = subst (λ x. IfErr x (Refuses checks)) (sym e) (subst (Refuses checks) (sym same) h)
 
 -- the first number whose checks are refused
-pub refused_at : (each : ℕ → List Check) (from k n at : ℕ) (refusal : SurveyRefusal) → from + k ≡ at → k < n
-    → damage_of (checks_from each from k) ≡ None → Refuses (each at) refusal → Refuses (checks_from each from n) refusal
-refused_at each from k n at (Damaged fault) e below before h = fails_at each from k n at (damage_in fault) e below before h
+pub refused_at : (each : ℕ → List Check) (from k n at : ℕ) (refusal : SurveyRefusal) →
+    from + k ≡ at → k < n
+    → damage_of (checks_from each from k) ≡ None → Refuses (each at) refusal →
+    Refuses (checks_from each from n) refusal
+refused_at each from k n at (Damaged fault) e below before h =
+    fails_at each from k n at (damage_in fault) e below before h
 refused_at each from k n at NoMemory e below before h = tt
 
 -- checks that name the same damage
-pub refused_same : {T : Type 0} (xs ys : List Check) (r : Result T SurveyRefusal) → damage_of xs ≡ damage_of ys → IfErr r (Refuses xs) → IfErr r (Refuses ys)
+pub refused_same : {T : Type 0} (xs ys : List Check) (r : Result T SurveyRefusal) →
+    damage_of xs ≡ damage_of ys → IfErr r (Refuses xs) → IfErr r (Refuses ys)
 refused_same xs ys (Ok x) e h = tt
 refused_same xs ys (Err (Damaged fault)) e h = sym e ∙ h
 refused_same xs ys (Err NoMemory) e h = tt

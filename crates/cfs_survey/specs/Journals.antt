@@ -1,6 +1,7 @@
 -- The checks of the journal, whose 64 records have sixteen words each. `at` is the offset of the
 -- first one.
-use Rattle.std.specs.Prelude.{ℕ, zero, suc, ◌+◌, ◌-◌, ◌*◌, ◌%◌, ◌==◌, ◌||◌, List, [], ◌∷◌, ◌++◌, get_or, length, map, take}
+use Rattle.std.specs.Prelude.{ℕ, zero, suc, ◌+◌, ◌-◌, ◌*◌, ◌%◌, ◌==◌, ◌||◌, List, [], ◌∷◌, ◌++◌}
+use Rattle.std.specs.Prelude.{get_or, length, map, take}
 use Rattle.std.specs.List.{range_with_len}
 use Rattle.cfs_dir.specs.Change.{changed_by}
 use Rattle.cfs_dir.specs.Namespace.{Namespace}
@@ -48,7 +49,8 @@ reached_checks at through table places changes k =
 abbrev pub last_reached : ℕ → List (List ℕ) → ℕ
 last_reached through journal = through + length (reached through journal)
 
--- No gate is above that number: those up to the table's are spent. And each stands where it belongs.
+-- No gate is above that number: those up to the table's are spent. And each stands where it
+-- belongs.
 abbrev pub bound_checks : ℕ → List (List ℕ) → ℕ → ℕ → List Check
 bound_checks at journal last position =
     at_most last (record_at at position) (gate_of (get_or journal position [])) ∷ []

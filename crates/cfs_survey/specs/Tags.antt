@@ -1,5 +1,6 @@
 -- The checks of the blocks' tags. `at` is the offset of the first one.
-use Rattle.std.specs.Prelude.{ℕ, ◌+◌, ◌*◌, ◌/◌, ◌%◌, ◌==◌, ◌&&◌, not, nat_le, Bool, false, List, [], ◌∷◌, get_or, length, find, Option, is_none, unwrap_or, if◌then◌else◌}
+use Rattle.std.specs.Prelude.{ℕ, ◌+◌, ◌*◌, ◌/◌, ◌%◌, ◌==◌, ◌&&◌, not, nat_le, Bool, false, List, []}
+use Rattle.std.specs.Prelude.{◌∷◌, get_or, length, find, Option, is_none, unwrap_or, if◌then◌else◌}
 use Rattle.std.specs.List.{range_with_len}
 use Rattle.std.specs.Option.{option_map_or}
 use Rattle.cfs_dir.specs.declared.node.Node.{Node}

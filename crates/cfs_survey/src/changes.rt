@@ -1,12 +1,17 @@
 //! The records of the journal, each by the tree before it.
-ghost use Rattle.std.specs.Prelude.{◌≡◌, ◌+◌, ◌<◌, ◌≤◌, ◌^◌, [], ◌∷◌, IfOk, OnOk, Some, option_copied, take};
+ghost use Rattle.std.specs.Prelude.{◌≡◌, ◌+◌, ◌<◌, ◌≤◌, ◌^◌, [], ◌∷◌, IfOk, OnOk, Some};
+ghost use Rattle.std.specs.Prelude.{option_copied, take};
 ghost use Rattle.std.specs.Str.{bytes_eq};
 ghost use Rattle.std.specs.Option.{option_map_or};
 ghost use Rattle.std.proofs.Math.ListN.{get_or};
 ghost use Rattle.cfs_dir.specs.Namespace.{child_of, is_child, node_at};
 ghost use Rattle.cfs_dir.specs.Words.{kind_word, node_in};
 ghost use Rattle.cfs_image.specs.Checks.{damage_of};
-ghost use Rattle.cfs_survey.specs.Changes.{create_checks, has_place, held_check, ino_of, ino_or, joining_checks, kept_checks, last_checks, last_of, move_checks, moved_checks, named_checks, new_checks, node_row, node_told, number_of, other_checks, remove_checks, replaced_checks, standing_checks};
+ghost use Rattle.cfs_survey.specs.Changes.{create_checks, has_place, held_check, ino_of, ino_or};
+ghost use Rattle.cfs_survey.specs.Changes.{joining_checks, kept_checks, last_checks, last_of};
+ghost use Rattle.cfs_survey.specs.Changes.{move_checks, moved_checks, named_checks, new_checks};
+ghost use Rattle.cfs_survey.specs.Changes.{node_row, node_told, number_of, other_checks};
+ghost use Rattle.cfs_survey.specs.Changes.{remove_checks, replaced_checks, standing_checks};
 ghost use Rattle.cfs_survey.specs.Faults.{reported};
 ghost use Rattle.cfs_survey.specs.Fields.{field_checks, name_room};
 
@@ -132,7 +137,8 @@ pub(crate) fn read_created(
 
 /// Checks that a record holds a node of this inode number, which stands at this offset.
 fn check_held(at: u64, held: Option<&Node>, ino: u64) -> Result<Node, Fault>
-    ensures named { reported result ≡ damage_of (held_check at (option_copied held.entry) ino ∷ []) }
+    ensures named { reported result
+        ≡ damage_of (held_check at (option_copied held.entry) ino ∷ []) }
     ensures node { IfOk result (λ node. option_copied held.entry ≡ Some node) }
 {
     match held {

@@ -1,5 +1,6 @@
 //! The records of the journal.
-ghost use Rattle.std.specs.Prelude.{◌≡◌, ◌+◌, ◌-◌, ◌%◌, ◌==◌, ◌||◌, ◌<◌, ◌≤◌, ◌^◌, [], ◌∷◌, IfErr, IfOk, None, OnOk, length};
+ghost use Rattle.std.specs.Prelude.{◌≡◌, ◌+◌, ◌-◌, ◌%◌, ◌==◌, ◌||◌, ◌<◌, ◌≤◌, ◌^◌, [], ◌∷◌, IfErr};
+ghost use Rattle.std.specs.Prelude.{IfOk, None, OnOk, length};
 ghost use Rattle.std.proofs.Math.ListN.{get_or};
 ghost use Rattle.cfs_dir.specs.Change.{changed, changed_by};
 ghost use Rattle.cfs_image.specs.Checks.{damage_of};
@@ -7,7 +8,10 @@ ghost use Rattle.cfs_journal.specs.Records.{change_of};
 ghost use Rattle.cfs_journal.specs.Standing.{changes_above, walk};
 ghost use Rattle.cfs_survey.specs.Changes.{change_checks, placed_by};
 ghost use Rattle.cfs_survey.specs.Faults.{checks_from, reported};
-ghost use Rattle.cfs_survey.specs.Journals.{bound_checks, changes_checks, gates_checks, home_check, home_checks, journal_checks, last_reached, places_after, reached, record_at, table_places, tree_after};
+ghost use Rattle.cfs_survey.specs.Journals.{bound_checks, changes_checks, gates_checks, home_check};
+ghost use Rattle.cfs_survey.specs.Journals.{home_checks, journal_checks, last_reached};
+ghost use Rattle.cfs_survey.specs.Journals.{places_after, reached, record_at, table_places};
+ghost use Rattle.cfs_survey.specs.Journals.{tree_after};
 ghost use Rattle.cfs_survey.specs.Refusals.{Refuses};
 ghost use Rattle.cfs_survey.specs.SoFar.{places_of, tree_of};
 ghost use Rattle.cfs_survey.specs.Tables.{row_at};

@@ -1,12 +1,14 @@
 //! The tags of blocks.
-ghost use Rattle.std.specs.Prelude.{ℕ, List, ◌≡◌, ◌+◌, ◌<◌, ◌≤◌, ◌^◌, ◌/◌, IfErr, IfOk, None, OnOk, length, nat_eq, true};
+ghost use Rattle.std.specs.Prelude.{ℕ, List, ◌≡◌, ◌+◌, ◌<◌, ◌≤◌, ◌^◌, ◌/◌, IfErr, IfOk, None, OnOk};
+ghost use Rattle.std.specs.Prelude.{length, nat_eq, true};
 ghost use Rattle.std.proofs.Math.ListN.{get_or};
 ghost use Rattle.std.specs.HashMap.{get};
 ghost use Rattle.cfs_image.specs.Checks.{damage_of};
 ghost use Rattle.cfs_survey.specs.Faults.{reported};
 ghost use Rattle.cfs_survey.specs.Mapped.{IsBlockMap};
 ghost use Rattle.cfs_survey.specs.Refusals.{Refuses};
-ghost use Rattle.cfs_survey.specs.Tags.{block_of, is_block_tag, is_file, own_checks, tag_checks, tags_checks};
+ghost use Rattle.cfs_survey.specs.Tags.{block_of, is_block_tag, is_file, own_checks, tag_checks};
+ghost use Rattle.cfs_survey.specs.Tags.{tags_checks};
 
 use crate::fault::{Fault, ensure};
 use crate::places::node_of;
@@ -71,7 +73,8 @@ fn note_tag(
     ensures sound { OnOk result
         (damage_of (own_checks at tags.now block (get_or tags.now block 0)) ≡ None) }
     ensures noted { OnOk result (IsBlockMap nodes.now tags.now (block + 1) blocks.new) }
-    ensures named { IfErr result (Refuses (own_checks at tags.now block (get_or tags.now block 0))) }
+    ensures named { IfErr result
+        (Refuses (own_checks at tags.now block (get_or tags.now block 0))) }
 {
     let tag = tags[block as usize];
     check_own(at, block, tag, block_of(blocks, tag))?;

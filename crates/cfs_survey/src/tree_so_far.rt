@@ -1,5 +1,6 @@
 //! A tree, record by record of the journal.
-ghost use Rattle.std.specs.Prelude.{◌≡◌, ◌<◌, ◌≤◌, ◌^◌, None, IfErr, OnOk, length, nat_lt, not, position};
+ghost use Rattle.std.specs.Prelude.{◌≡◌, ◌<◌, ◌≤◌, ◌^◌, None, IfErr, OnOk, length, nat_lt, not};
+ghost use Rattle.std.specs.Prelude.{position};
 ghost use Rattle.std.proofs.Math.ListN.{get_or, set};
 ghost use Rattle.cfs_dir.specs.Change.{changed, without_replaced};
 ghost use Rattle.cfs_dir.specs.Namespace.{placed, without};
@@ -7,7 +8,9 @@ ghost use Rattle.cfs_dir.specs.Words.{replaced_in};
 ghost use Rattle.cfs_image.specs.Checks.{damage_of};
 ghost use Rattle.std.specs.List.{position_or_len};
 ghost use Rattle.cfs_journal.specs.Records.{change_of};
-ghost use Rattle.cfs_survey.specs.Changes.{change_checks, create_checks, move_checks, moving_checks, operation_of, placed_by, remove_checks, tree_checks};
+ghost use Rattle.cfs_survey.specs.Changes.{change_checks, create_checks, move_checks};
+ghost use Rattle.cfs_survey.specs.Changes.{moving_checks, operation_of, placed_by, remove_checks};
+ghost use Rattle.cfs_survey.specs.Changes.{tree_checks};
 ghost use Rattle.cfs_survey.specs.Faults.{reported};
 ghost use Rattle.cfs_survey.specs.Places.{place_checks};
 ghost use Rattle.cfs_survey.specs.Refusals.{Refuses};
@@ -184,7 +187,8 @@ impl TreeSoFar {
         requires low { at < 2 ^ 31 }
         requires operation { operation_of words.now ≡ 3 }
         ensures sound { OnOk result
-            (damage_of (moving_checks at (tree_of self.old) (places_of self.old) words.now) ≡ None) }
+            (damage_of (moving_checks at (tree_of self.old) (places_of self.old) words.now) ≡
+            None) }
         ensures tree { OnOk result
             (tree_of self.new ≡ changed (tree_of self.old) (change_of words.now)) }
         ensures places { OnOk result
@@ -207,7 +211,8 @@ impl TreeSoFar {
     ) -> Result<(), SurveyRefusal>
         requires low { at < 2 ^ 31 }
         ensures sound { OnOk result
-            (damage_of (change_checks at (tree_of self.old) (places_of self.old) words.now) ≡ None) }
+            (damage_of (change_checks at (tree_of self.old) (places_of self.old) words.now) ≡
+            None) }
         ensures tree { OnOk result
             (tree_of self.new ≡ changed (tree_of self.old) (change_of words.now)) }
         ensures places { OnOk result

@@ -1,5 +1,6 @@
 -- How calls of the program end.
-use Rattle.std.proofs.Common.{◌≡◌, ◌⊎◌, ◌≤◌, length, inl, inr, ℕ, Some, None, List, [], refl, sym, subst, true}
+use Rattle.std.proofs.Common.{◌≡◌, ◌⊎◌, ◌≤◌, length, inl, inr, ℕ, Some, None, List, [], refl, sym}
+use Rattle.std.proofs.Common.{subst, true}
 use Rattle.std.specs.declared.option.Option.{Option}
 use Rattle.std.specs.Io.KnownBytes.{Appends, Consumes, IsAtEnd}
 use Rattle.std.proofs.lemmas.List.{append-nil}
@@ -14,9 +15,12 @@ use Rattle.cfs_script.specs.Script.{IsScript}
 use Rattle.cfs_top.specs.Stage.{are_served}
 use Rattle.cfs_top.specs.declared.out_line.OutLine.{OutLine}
 use Rattle.cfs_top.specs.declared.status.Status.{Status}
-use Rattle.cfs_top.specs.declared.status.Status.TheVariants.{Done, Usage, Script, Image, Input, Output, Shelf, NoMemory, Absent}
+use Rattle.cfs_top.specs.declared.status.Status.TheVariants.{Done, Usage, Script, Image, Input}
+use Rattle.cfs_top.specs.declared.status.Status.TheVariants.{Output, Shelf, NoMemory, Absent}
 use Rattle.cfs_top.specs.Command.{IsMkfs, IsUpgrade}
-use Rattle.cfs_top.specs.Outside.{ArePlay, Ends, IsDue, IsHeeded, LeavesShelf, Makes, PlayIsDue, SaveNone, Says, Shelved, UpgradeIsDue, Upgrades, Writes, WritesAll, WritesFront}
+use Rattle.cfs_top.specs.Outside.{ArePlay, Ends, IsDue, IsHeeded, LeavesShelf, Makes, PlayIsDue}
+use Rattle.cfs_top.specs.Outside.{SaveNone, Says, Shelved, UpgradeIsDue, Upgrades, Writes}
+use Rattle.cfs_top.specs.Outside.{WritesAll, WritesFront}
 use Rattle.cfs_top.specs.Play.{PlaysAll, PlaysFront, Run}
 use Rattle.cfs_top.specs.Text.{texts}
 use Rattle.cfs_top.proofs.Orders.{KeepsOrder-run}
@@ -83,7 +87,8 @@ all_of_script left rest bytes lines log before after came short end script serve
   written = all.written;
 }
 
-front_weaker : (due other : Status → List ℕ → Type 0) (before after : Option (List ℕ)) → ((status : Status) (text : List ℕ) → due status text → other status text) →
+front_weaker : (due other : Status → List ℕ → Type 0) (before after : Option (List ℕ)) →
+    ((status : Status) (text : List ℕ) → due status text → other status text) →
     WritesFront due before after → WritesFront other before after
 front_weaker due other before after more front = record {
   status = front.status;
@@ -92,7 +97,8 @@ front_weaker due other before after more front = record {
   written = front.written;
 }
 
-all_weaker : (due other : Status → List ℕ → Type 0) (status : Status) (before after : Option (List ℕ)) → ((text : List ℕ) → due status text → other status text) →
+all_weaker : (due other : Status → List ℕ → Type 0) (status : Status)
+    (before after : Option (List ℕ)) → ((text : List ℕ) → due status text → other status text) →
     WritesAll due status before after → WritesAll other status before after
 all_weaker due other status before after more all = record {
   text = all.text;
@@ -101,24 +107,35 @@ all_weaker due other status before after more all = record {
 }
 
 -- what was due of one command is due of the call
-writes_weaker : (due other : Status → List ℕ → Type 0) (status : Status) (before after : Option (List ℕ)) → ((status : Status) (text : List ℕ) → due status text → other status text) →
+writes_weaker : (due other : Status → List ℕ → Type 0) (status : Status)
+    (before after : Option (List ℕ)) →
+    ((status : Status) (text : List ℕ) → due status text → other status text) →
     Writes due status before after → Writes other status before after
-writes_weaker due other Done before after more w = all_weaker due other Done before after (more Done) w
-writes_weaker due other Usage before after more w = all_weaker due other Usage before after (more Usage) w
-writes_weaker due other Script before after more w = all_weaker due other Script before after (more Script) w
-writes_weaker due other Image before after more w = all_weaker due other Image before after (more Image) w
+writes_weaker due other Done before after more w =
+    all_weaker due other Done before after (more Done) w
+writes_weaker due other Usage before after more w =
+    all_weaker due other Usage before after (more Usage) w
+writes_weaker due other Script before after more w =
+    all_weaker due other Script before after (more Script) w
+writes_weaker due other Image before after more w =
+    all_weaker due other Image before after (more Image) w
 writes_weaker due other Input before after more w = w
 writes_weaker due other Output before after more w = front_weaker due other before after more w
 writes_weaker due other Shelf before after more w = w
 writes_weaker due other NoMemory before after more (inl same) = inl same
-writes_weaker due other NoMemory before after more (inr front) = inr (front_weaker due other before after more front)
-writes_weaker due other Absent before after more w = all_weaker due other Absent before after (more Absent) w
+writes_weaker due other NoMemory before after more (inr front) =
+    inr (front_weaker due other before after more front)
+writes_weaker due other Absent before after more w =
+    all_weaker due other Absent before after (more Absent) w
 
 -- what `play` wrote is what the call wrote
-pub play_writes : (words : List (List ℕ)) (files : Option Files) (left rest : Option (List ℕ)) (status : Status) (before after : Option (List ℕ)) → ArePlay words →
-    Writes (PlayIsDue left rest) status before after → Writes (IsDue words files left rest) status before after
+pub play_writes : (words : List (List ℕ)) (files : Option Files) (left rest : Option (List ℕ))
+    (status : Status) (before after : Option (List ℕ)) → ArePlay words →
+    Writes (PlayIsDue left rest) status before after →
+    Writes (IsDue words files left rest) status before after
 play_writes words files left rest status before after are w =
-    writes_weaker (PlayIsDue left rest) (IsDue words files left rest) status before after (λ s text due. inl (are, due)) w
+    writes_weaker (PlayIsDue left rest) (IsDue words files left rest) status before after
+    (λ s text due. inl (are, due)) w
 
 -- three ends of a call that differ
 pub usage_input : Usage ≡ Input → ⊥
@@ -138,15 +155,24 @@ Appends-none None = tt
 Appends-none (Some bytes) = sym (append-nil bytes)
 
 -- a call that made a store and wrote nothing ended so
-pub mkfs_ends : (status : Status) (words : List (List ℕ)) (image : List ℕ) (blocks queues : ℕ) (left written : Option (List ℕ)) (old new : Shelved) →
+pub mkfs_ends : (status : Status) (words : List (List ℕ)) (image : List ℕ) (blocks queues : ℕ)
+    (left written : Option (List ℕ)) (old new : Shelved) →
     IsMkfs words image blocks queues → Makes status image blocks queues old new →
-    Ends status words (record { left = left; written = written; shelf = old }) (record { left = left; written = written; shelf = new })
+    Ends status words (record { left = left; written = written; shelf = old })
+    (record { left = left; written = written; shelf = new })
 mkfs_ends Done words image blocks queues left written old new is made = record {
   writes = record { text = []; is_due = inr (inl ((image, (blocks, (queues, is))), refl, refl)); written = Appends-none written };
   asked = λ input. cc;
   came = ([], Consumes-none left);
   unread = λ none. refl;
-  shelf = inl (record { name = image; bytes = new_image_of blocks queues; are = inl (blocks, (queues, (is, refl))); saved = made });
+  shelf = inl
+      (record {
+        name = image;
+        bytes = new_image_of blocks queues;
+        are =
+            inl (blocks, (queues, (is, refl)));
+        saved = made;
+      });
 }
 mkfs_ends Usage words image blocks queues left written old new is made = absurd made
 mkfs_ends Script words image blocks queues left written old new is made = absurd made
@@ -158,7 +184,14 @@ mkfs_ends Shelf words image blocks queues left written old new is made = record 
   asked = λ input. cc;
   came = ([], Consumes-none left);
   unread = λ none. refl;
-  shelf = inr (record { name = image; bytes = new_image_of blocks queues; are = inl (blocks, (queues, (is, refl))); fails = made });
+  shelf = inr
+      (record {
+        name = image;
+        bytes = new_image_of blocks queues;
+        are =
+            inl (blocks, (queues, (is, refl)));
+        fails = made;
+      });
 }
 mkfs_ends NoMemory words image blocks queues left written old new is made = record {
   writes = inl refl;
@@ -170,10 +203,18 @@ mkfs_ends NoMemory words image blocks queues left written old new is made = reco
 mkfs_ends Absent words image blocks queues left written old new is made = absurd made
 
 -- what became of the shelf by `upgrade` is what became of it by the call
-upgrade_leaves : (status : Status) (words : List (List ℕ)) (image name : List ℕ) (old new : Shelved) →
-    IsUpgrade words image name → Upgrades status image name old new → LeavesShelf status words old new
+upgrade_leaves : (status : Status) (words : List (List ℕ)) (image name : List ℕ) (old new : Shelved)
+    →
+    IsUpgrade words image name → Upgrades status image name old new →
+    LeavesShelf status words old new
 upgrade_leaves Done words image name old new is renews =
-    inl (record { name = name; bytes = upgraded renews.bytes; are = inr (image, (renews.bytes, (is, (renews.is_old, refl)))); saved = renews.saved })
+    inl (record {
+      name = name;
+      bytes = upgraded renews.bytes;
+      are =
+          inr (image, (renews.bytes, (is, (renews.is_old, refl))));
+      saved = renews.saved;
+    })
 upgrade_leaves Usage words image name old new is made = absurd made
 upgrade_leaves Script words image name old new is made = absurd made
 upgrade_leaves Image words image name old new is made = made
@@ -181,17 +222,27 @@ upgrade_leaves Input words image name old new is made = absurd made
 upgrade_leaves Output words image name old new is made = made
 upgrade_leaves Shelf words image name old new is (inl load) = inl ((image, (name, is)), load)
 upgrade_leaves Shelf words image name old new is (inr save) =
-    inr (record { name = name; bytes = upgraded save.bytes; are = inr (image, (save.bytes, (is, (save.is_old, refl)))); fails = save.fails })
+    inr (record {
+      name = name;
+      bytes = upgraded save.bytes;
+      are =
+          inr (image, (save.bytes, (is, (save.is_old, refl))));
+      fails = save.fails;
+    })
 upgrade_leaves NoMemory words image name old new is made = made
 upgrade_leaves Absent words image name old new is made = made
 
 -- a call that upgraded an image, or wrote why not, ended so
-pub upgrade_ends : (status : Status) (words : List (List ℕ)) (image name : List ℕ) (left before after : Option (List ℕ)) (old new : Shelved) →
-    IsUpgrade words image name → Writes (UpgradeIsDue old.files image) status before after → Upgrades status image name old new →
-    Ends status words (record { left = left; written = before; shelf = old }) (record { left = left; written = after; shelf = new })
+pub upgrade_ends : (status : Status) (words : List (List ℕ)) (image name : List ℕ)
+    (left before after : Option (List ℕ)) (old new : Shelved) →
+    IsUpgrade words image name → Writes (UpgradeIsDue old.files image) status before after →
+    Upgrades status image name old new →
+    Ends status words (record { left = left; written = before; shelf = old })
+    (record { left = left; written = after; shelf = new })
 upgrade_ends status words image name left before after old new is w made = record {
   writes =
-      writes_weaker (UpgradeIsDue old.files image) (IsDue words old.files left left) status before after
+      writes_weaker (UpgradeIsDue old.files image) (IsDue words old.files left left) status before
+      after
       (λ s text due. inr (inr (inl (image, (name, (is, due)))))) w;
   asked = λ input. absurd (subst (λ s. Upgrades s image name old new) input made);
   came = ([], Consumes-none left);
@@ -200,7 +251,8 @@ upgrade_ends status words image name left before after old new is w made = recor
 }
 
 -- the shelf stays as it was, with words that save none
-pub kept_shelf : (status : Status) (words : List (List ℕ)) (shelf : Shelved) → SaveNone words → (status ≡ Shelf → ⊥) → LeavesShelf status words shelf shelf
+pub kept_shelf : (status : Status) (words : List (List ℕ)) (shelf : Shelved) → SaveNone words →
+    (status ≡ Shelf → ⊥) → LeavesShelf status words shelf shelf
 kept_shelf Done words shelf none other = inr (none, refl)
 kept_shelf Usage words shelf none other = refl
 kept_shelf Script words shelf none other = refl
@@ -221,22 +273,31 @@ output_shelf same = cc
 
 -- the line of a damage was written, or a front of it, or memory lacked
 abbrev pub Refuses : Status → List ℕ → Option (List ℕ) → Option (List ℕ) → Type 0
-Refuses result text before after = ((result ≡ NoMemory) × (after ≡ before)) ⊎ Says result Image text before after
+Refuses result text before after =
+    ((result ≡ NoMemory) × (after ≡ before)) ⊎ Says result Image text before after
 
-pub refused_writes : (due : Status → List ℕ → Type 0) (result : Status) (text : List ℕ) (before after : Option (List ℕ)) →
+pub refused_writes : (due : Status → List ℕ → Type 0) (result : Status) (text : List ℕ)
+    (before after : Option (List ℕ)) →
     due Image text → Refuses result text before after → Writes due result before after
 refused_writes due result text before after is_due (inl none) =
     let P : Status → Type 0 = λ s. Writes due s before after in
     subst P (sym none.0) (inl none.1)
-refused_writes due result text before after is_due (inr said) = said_writes due result Image text before after tt is_due said
+refused_writes due result text before after is_due (inr said) =
+    said_writes due result Image text before after tt is_due said
 
-pub said_upgrades : (result status : Status) (text : List ℕ) (before after : Option (List ℕ)) (image name : List ℕ) (old new : Shelved) →
-    Upgrades status image name old new → new.files ≡ old.files → Says result status text before after → Upgrades result image name old new
-said_upgrades result status text before after image name old new made same (inl all) = subst (λ s. Upgrades s image name old new) (sym all.0) made
-said_upgrades result status text before after image name old new made same (inr front) = subst (λ s. Upgrades s image name old new) (sym front.0) same
+pub said_upgrades : (result status : Status) (text : List ℕ) (before after : Option (List ℕ))
+    (image name : List ℕ) (old new : Shelved) →
+    Upgrades status image name old new → new.files ≡ old.files →
+    Says result status text before after → Upgrades result image name old new
+said_upgrades result status text before after image name old new made same (inl all) =
+    subst (λ s. Upgrades s image name old new) (sym all.0) made
+said_upgrades result status text before after image name old new made same (inr front) =
+    subst (λ s. Upgrades s image name old new) (sym front.0) same
 
-pub refused_upgrades : (result : Status) (text : List ℕ) (before after : Option (List ℕ)) (image name : List ℕ) (old new : Shelved) →
+pub refused_upgrades : (result : Status) (text : List ℕ) (before after : Option (List ℕ))
+    (image name : List ℕ) (old new : Shelved) →
     new.files ≡ old.files → Refuses result text before after → Upgrades result image name old new
-refused_upgrades result text before after image name old new same (inl none) = subst (λ s. Upgrades s image name old new) (sym none.0) same
+refused_upgrades result text before after image name old new same (inl none) =
+    subst (λ s. Upgrades s image name old new) (sym none.0) same
 refused_upgrades result text before after image name old new same (inr said) =
     said_upgrades result Image text before after image name old new same same said

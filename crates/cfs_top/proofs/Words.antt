@@ -6,7 +6,8 @@ use Rattle.std.specs.Prelude.{codes}
 use Rattle.std.specs.Fmt.{decimal}
 use Rattle.std.specs.Str.{bytes_eq}
 use Rattle.cfs_image.specs.declared.layout.TheConstants.{FEWEST_BLOCKS, FEWEST_QUEUES, MOST_BLOCKS, MOST_QUEUES}
-use Rattle.cfs_top.specs.Command.{IsMkfs, IsPlay, IsUpgrade, is_mkfs, is_play, is_upgrade, is_image_name}
+use Rattle.cfs_top.specs.Command.{IsMkfs, IsPlay, IsUpgrade, is_mkfs, is_play, is_upgrade}
+use Rattle.cfs_top.specs.Command.{is_image_name}
 
 -- three words, of which two are known
 pub IsPlay-three : (words : List (List ℕ)) (command image : List ℕ) → length words ≡ 3 →
@@ -53,12 +54,17 @@ IsMkfs-five (v ∷ w ∷ x ∷ y ∷ z ∷ u ∷ rest) command image first secon
 -- four words, of which three are known
 pub IsUpgrade-four : (words : List (List ℕ)) (command image new : List ℕ) → length words ≡ 4 →
     command ≡ get_or words 1 command → image ≡ get_or words 2 image → new ≡ get_or words 3 new →
-    is_upgrade command ≡ true → is_image_name image ≡ true → is_image_name new ≡ true → bytes_eq new image ≡ false → IsUpgrade words image new
+    is_upgrade command ≡ true → is_image_name image ≡ true → is_image_name new ≡ true →
+    bytes_eq new image ≡ false → IsUpgrade words image new
 IsUpgrade-four [] command image new long second third fourth is name new_name apart = cc
-IsUpgrade-four (a ∷ []) command image new long second third fourth is name new_name apart = absurd (omega arith)
-IsUpgrade-four (a ∷ b ∷ []) command image new long second third fourth is name new_name apart = absurd (omega arith)
-IsUpgrade-four (a ∷ b ∷ c ∷ []) command image new long second third fourth is name new_name apart = absurd (omega arith)
-IsUpgrade-four (a ∷ b ∷ c ∷ d ∷ []) command image new long second third fourth is name new_name apart =
+IsUpgrade-four (a ∷ []) command image new long second third fourth is name new_name apart =
+    absurd (omega arith)
+IsUpgrade-four (a ∷ b ∷ []) command image new long second third fourth is name new_name apart =
+    absurd (omega arith)
+IsUpgrade-four (a ∷ b ∷ c ∷ []) command image new long second third fourth is name new_name apart =
+    absurd (omega arith)
+IsUpgrade-four (a ∷ b ∷ c ∷ d ∷ []) command image new long second third fourth is name new_name
+    apart =
     let named : command ≡ codes "upgrade" = (bytes_eq-Decides command (codes "upgrade")).0 is in
     record {
       program = a;
@@ -67,4 +73,5 @@ IsUpgrade-four (a ∷ b ∷ c ∷ d ∷ []) command image new long second third 
       new_name = new_name;
       another = not_from_Decides (bytes_eq new image) (bytes_eq-Decides new image) apart;
     }
-IsUpgrade-four (a ∷ b ∷ c ∷ d ∷ e ∷ rest) command image new long second third fourth is name new_name apart = absurd (omega arith)
+IsUpgrade-four (a ∷ b ∷ c ∷ d ∷ e ∷ rest) command image new long second third fourth is name
+    new_name apart = absurd (omega arith)

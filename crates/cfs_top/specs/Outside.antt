@@ -17,7 +17,8 @@ use Rattle.cfs_script.specs.declared.line.Line.{Line}
 use Rattle.cfs_script.specs.Script.{IsScript, IsNoScript}
 use Rattle.cfs_top.specs.declared.out_line.OutLine.{OutLine}
 use Rattle.cfs_top.specs.declared.status.Status.{Status}
-use Rattle.cfs_top.specs.declared.status.Status.TheVariants.{Done, Usage, Script, Image, Input, Output, Shelf, NoMemory, Absent}
+use Rattle.cfs_top.specs.declared.status.Status.TheVariants.{Done, Usage, Script, Image, Input}
+use Rattle.cfs_top.specs.declared.status.Status.TheVariants.{Output, Shelf, NoMemory, Absent}
 use Rattle.cfs_top.specs.Command.{IsMkfs, IsPlay, IsUpgrade}
 use Rattle.cfs_top.specs.Order.{KeepsOrder}
 use Rattle.cfs_top.specs.Play.{Run}

@@ -1,7 +1,8 @@
 -- The number of each status.
 use Rattle.std.specs.Prelude.{ℕ}
 use Rattle.cfs_top.specs.declared.status.Status.{Status}
-use Rattle.cfs_top.specs.declared.status.Status.TheVariants.{Done, Usage, Script, Image, Input, Output, Shelf, NoMemory, Absent}
+use Rattle.cfs_top.specs.declared.status.Status.TheVariants.{Done, Usage, Script, Image, Input}
+use Rattle.cfs_top.specs.declared.status.Status.TheVariants.{Output, Shelf, NoMemory, Absent}
 
 abbrev pub number_of : Status → ℕ
 number_of Done = 0

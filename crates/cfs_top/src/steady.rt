@@ -29,8 +29,8 @@ use std::alloc::Global;
 /// The image is neither loaded nor saved yet: each script begins with an empty file system. A
 /// script of more than one caller and the file `/a` is refused yet.
 ///
-/// `upgrade IMAGE NEW` saves what the image of version 1 becomes as an image of the present version,
-/// under another name. It reads no input, and the old image stays as it was.
+/// `upgrade IMAGE NEW` saves what the image of version 1 becomes as an image of the present
+/// version, under another name. It reads no input, and the old image stays as it was.
 pub fn crossfs_steady<S: Source, K: Sink, H: Shelf>(
     alloc: Global,
     words: &[Word],

@@ -317,7 +317,8 @@ fn shelf_of_images(alloc: Global, failing: Option<u64>) -> Result<MemShelf, NoMe
     Ok(MemShelf::with_files(alloc, files, numbers(alloc, failing)?))
 }
 
-/// Calls `upgrade` over a source whose first read fails, and a sink whose write of that number does.
+/// Calls `upgrade` over a source whose first read fails, and a sink whose write of that number
+/// does.
 fn upgrade(
     alloc: Global,
     shelf: &mut MemShelf,

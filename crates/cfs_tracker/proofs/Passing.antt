@@ -1,5 +1,7 @@
 -- What a walk has passed stands before what comes.
-use Rattle.std.proofs.Common.{◌≡◌, ◌∙◌, ◌+◌, ◌<◌, ◌≤◌, ◌&&◌, ◌||◌, ap, arith, drop, false, get_or, inl, inr, length, List, [], ◌∷◌, max, min, None, Option, Some, refl, set, suc, sym, true, zero, ℕ, Bool}
+use Rattle.std.proofs.Common.{◌≡◌, ◌∙◌, ◌+◌, ◌<◌, ◌≤◌, ◌&&◌, ◌||◌, ap, arith, drop, false, get_or}
+use Rattle.std.proofs.Common.{inl, inr, length, List, [], ◌∷◌, max, min, None, Option, Some, refl}
+use Rattle.std.proofs.Common.{set, suc, sym, true, zero, ℕ, Bool}
 use Rattle.std.specs.Prelude.{is_none, nat_lt, option_map}
 use Rattle.std.specs.List.{find, list_any, position, position_or_len}
 use Rattle.std.proofs.lemmas.Bool.{cases_Bool, cases_lt}
@@ -14,7 +16,8 @@ use Rattle.cfs_tracker.specs.declared.passed.Passed.{Passed}
 use Rattle.cfs_tracker.specs.declared.pending.Pending.{Pending}
 use Rattle.cfs_tracker.specs.declared.reading.Reading.{Reading}
 use Rattle.cfs_tracker.specs.View.{TrackerView}
-use Rattle.cfs_tracker.specs.Dispatch.{ahead, is_ahead, is_read_ahead, is_waiting_doing, lesser, read_place, step_behind, step_of}
+use Rattle.cfs_tracker.specs.Dispatch.{ahead, is_ahead, is_read_ahead, is_waiting_doing, lesser}
+use Rattle.cfs_tracker.specs.Dispatch.{read_place, step_behind, step_of}
 use Rattle.cfs_tracker.specs.Passed.{IsOf, has_stretch, is_before, is_joinable, joined}
 use Rattle.cfs_tracker.specs.Reads.{is_live_doing, place_of}
 use Rattle.cfs_tracker.specs.Work.{takes_now}
@@ -81,23 +84,25 @@ any-joined : (stretches : List Span) (at : ℕ) (added span d : Span) → at < l
     has_stretch (set stretches at (joined (get_or stretches at d) added)) span ≡ true →
     (has_stretch stretches span || meets added span) ≡ true
 any-joined [] at added span d less join h = absurd (omega arith)
-any-joined (s ∷ ss) zero added span d less join h = elim (cases_Bool (meets (joined s added) span)) [
-  | inl is ↦
-      (elim (cases_Bool (meets s span)) [
-        | inl own ↦ rw own refl
-        | inr other ↦
-            let one : (meets s span || meets added span) ≡ true = joined-of s added span join is in
-            let it : (meets s span || meets added span) ≡ meets added span = rw other refl in
-            or-right (has_stretch (s ∷ ss) span) (meets added span) (sym it ∙ one)
-      ])
-  | inr none ↦
-      let it : has_stretch (joined s added ∷ ss) span ≡ has_stretch ss span = rw none refl in
-      let rest : has_stretch ss span ≡ true = sym it ∙ h in
-      (elim (cases_Bool (meets s span)) [
-        | inl own ↦ rw own refl
-        | inr other ↦ rw (other, rest) refl
-      ])
-]
+any-joined (s ∷ ss) zero added span d less join h =
+    elim (cases_Bool (meets (joined s added) span)) [
+      | inl is ↦
+          (elim (cases_Bool (meets s span)) [
+            | inl own ↦ rw own refl
+            | inr other ↦
+                let one : (meets s span || meets added span) ≡ true =
+                joined-of s added span join is in
+                let it : (meets s span || meets added span) ≡ meets added span = rw other refl in
+                or-right (has_stretch (s ∷ ss) span) (meets added span) (sym it ∙ one)
+          ])
+      | inr none ↦
+          let it : has_stretch (joined s added ∷ ss) span ≡ has_stretch ss span = rw none refl in
+          let rest : has_stretch ss span ≡ true = sym it ∙ h in
+          (elim (cases_Bool (meets s span)) [
+            | inl own ↦ rw own refl
+            | inr other ↦ rw (other, rest) refl
+          ])
+    ]
 any-joined (s ∷ ss) (suc at) added span d less join h = elim (cases_Bool (meets s span)) [
   | inl own ↦ rw own refl
   | inr other ↦

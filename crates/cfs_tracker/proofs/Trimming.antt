@@ -1,5 +1,7 @@
 -- A block past the stored size is given up.
-use Rattle.std.proofs.Common.{◌≡◌, ◌∙◌, ap, arith, ◌*◌, ◌+◌, ◌-◌, ◌<◌, ◌≤◌, ◌&&◌, ◌==◌, get_or, length, not, Option, None, Some, refl, set, true, false, ℕ, Bool, cond, inl, inr, get_or-set_other}
+use Rattle.std.proofs.Common.{◌≡◌, ◌∙◌, ap, arith, ◌*◌, ◌+◌, ◌-◌, ◌<◌, ◌≤◌, ◌&&◌, ◌==◌, get_or}
+use Rattle.std.proofs.Common.{length, not, Option, None, Some, refl, set, true, false, ℕ, Bool}
+use Rattle.std.proofs.Common.{cond, inl, inr, get_or-set_other}
 use Rattle.std.specs.Prelude.{is_none, nat_le, nat_lt}
 use Rattle.std.specs.List.{find, list_any, range_with_len}
 use Rattle.std.proofs.lemmas.Bool.{cases_Bool}
@@ -27,7 +29,8 @@ use Rattle.cfs_tracker.specs.View.{TrackerView, entry_at, read_at}
 use Rattle.cfs_tracker.specs.Cells.{cell_at, with_cell}
 use Rattle.cfs_tracker.specs.Follows.{CellStands, DoubtStands, Follows}
 use Rattle.cfs_tracker.specs.Reads.{is_live_doing}
-use Rattle.cfs_tracker.specs.Trim.{is_doubt_in, is_held, is_live_in, is_moving, is_past, left_cell, next_trim}
+use Rattle.cfs_tracker.specs.Trim.{is_doubt_in, is_held, is_live_in, is_moving, is_past, left_cell}
+use Rattle.cfs_tracker.specs.Trim.{next_trim}
 use Rattle.cfs_tracker.proofs.Celling.{follows-cell, is_lent_cell}
 use Rattle.cfs_tracker.proofs.Earlier.{all-none, live-entry, not-lent}
 use Rattle.cfs_tracker.proofs.Entries.{found-not, none-any}

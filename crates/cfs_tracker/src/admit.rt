@@ -8,7 +8,8 @@ ghost use Rattle.cfs_core.specs.declared.event.Event.TheVariants as events;
 ghost use Rattle.cfs_core.specs.declared.inode_core.Core.{Core};
 ghost use Rattle.cfs_core.specs.May.{is_change, may};
 ghost use Rattle.cfs_core.specs.After.{after};
-ghost use Rattle.cfs_tracker.specs.Admit.{MayAdmit, admitted, bare_needed, doubted, first_unmapped, long_after, pending};
+ghost use Rattle.cfs_tracker.specs.Admit.{MayAdmit, admitted, bare_needed, doubted, first_unmapped};
+ghost use Rattle.cfs_tracker.specs.Admit.{long_after, pending};
 ghost use Rattle.cfs_tracker.specs.Follows.{Follows};
 ghost use Rattle.cfs_tracker.specs.View.{KeepsRoom, view_of};
 

@@ -2,7 +2,8 @@
 
 ghost use Rattle.std.specs.Prelude.{◌≡◌, ◌↔◌, IsTrue, Some, is_none, option_copied, vec_capacity, vec_len};
 ghost use Rattle.cfs_core.specs.Words.{sized};
-ghost use Rattle.cfs_tracker.specs.Finish.{again_entry, blocks_in, blocks_out, done_with, home, is_last_entry, is_last_of, last_number, number_of};
+ghost use Rattle.cfs_tracker.specs.Finish.{again_entry, blocks_in, blocks_out, done_with, home};
+ghost use Rattle.cfs_tracker.specs.Finish.{is_last_entry, is_last_of, last_number, number_of};
 ghost use Rattle.cfs_tracker.specs.View.{with_entry};
 
 use crate::find::position_of;

@@ -9,7 +9,9 @@ ghost use Rattle.cfs_core.specs.declared.inode_core.Core.{Core};
 ghost use Rattle.cfs_core.specs.Words.{is_through, track};
 ghost use Rattle.cfs_core.specs.May.{may};
 ghost use Rattle.cfs_core.specs.After.{after};
-ghost use Rattle.cfs_tracker.specs.Finish.{IsOut, applied, applied_at, as_far, blocks_out, is_last, more, put_back, retired, size_after, size_unsure, span_in};
+ghost use Rattle.cfs_tracker.specs.Finish.{IsOut, applied, applied_at, as_far, blocks_out, is_last};
+ghost use Rattle.cfs_tracker.specs.Finish.{more, put_back, retired, size_after, size_unsure};
+ghost use Rattle.cfs_tracker.specs.Finish.{span_in};
 ghost use Rattle.cfs_tracker.specs.Follows.{Follows};
 ghost use Rattle.cfs_tracker.specs.View.{KeepsRoom, entry_at, view_of};
 

@@ -6,7 +6,8 @@ ghost use Rattle.cfs_file.specs.declared.sizes.TheConstants.{FILE_BLOCKS};
 ghost use Rattle.cfs_file.specs.Span.{meets};
 ghost use Rattle.cfs_core.specs.Words.{block_span};
 ghost use Rattle.cfs_core.specs.Jobs.{is_above};
-ghost use Rattle.cfs_tracker.specs.Dispatch.{holder, is_kept, is_still_at, is_wanted_cell, lend, next_cell, tile_at};
+ghost use Rattle.cfs_tracker.specs.Dispatch.{holder, is_kept, is_still_at, is_wanted_cell, lend};
+ghost use Rattle.cfs_tracker.specs.Dispatch.{next_cell, tile_at};
 
 use crate::cells::is_mapped;
 use crate::{Cell, Tile};

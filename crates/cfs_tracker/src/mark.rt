@@ -50,7 +50,8 @@ impl<S: Drop, D: Drop, B: Drop> Tracker<S, D, B> {
     }
 
     /// Takes the slots of the change that waits at a place out, to be marked; none exactly where no
-    /// change waits there with its slots. `marked` comes next. Walks the entries to the place twice.
+    /// change waits there with its slots. `marked` comes next. Walks the entries to the place
+    /// twice.
     pub fn take_waiting(&mut self, place: u64) -> Option<S>
         ensures slots { result ≡ waiting_slots (entry_at (view_of self.old).entries place) }
         ensures taken { OnSome result (view_of self.new ≡ marking place (view_of self.old)) }
@@ -93,8 +94,8 @@ impl<S: Drop, D: Drop, B: Drop> Tracker<S, D, B> {
 
     /// The slots that `take_waiting` gave come back: the change at the place is a no-op, covered by
     /// the later one at `by`, or, where that was not kept, its mark failed. That is an event where
-    /// the later one may cover it, as it may where `next_mark` named the place. Walks the entries to
-    /// the place.
+    /// the later one may cover it, as it may where `next_mark` named the place. Walks the entries
+    /// to the place.
     pub fn marked(&mut self, place: u64, by: u64, slots: S, kept: bool)
         ensures view { view_of self.new ≡ marked place slots kept (view_of self.old) }
         ensures room { KeepsRoom self.old self.new }

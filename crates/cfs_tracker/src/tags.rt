@@ -40,8 +40,8 @@ fn take_from<B: Drop>(cell: &mut Cell<B>) -> Option<B>
 
 impl<S: Drop, D: Drop, B: Drop> Tracker<S, D, B> {
     /// Takes the block out that is kept for a block of the file, to be tagged again, where its tag
-    /// is unsure, or given up; none exactly where none is kept. `tagged` or `trimmed` comes next. Walks
-    /// nothing.
+    /// is unsure, or given up; none exactly where none is kept. `tagged` or `trimmed` comes next.
+    /// Walks nothing.
     pub fn take_block(&mut self, block: u64) -> Option<B>
         requires { block < FILE_BLOCKS }
         ensures block { result ≡ held_in (cell_at (view_of self.old).cells block) }

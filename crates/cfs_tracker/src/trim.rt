@@ -1,6 +1,7 @@
 //! Blocks past the stored size are given up.
 
-ghost use Rattle.std.specs.Prelude.{◌≡◌, ◌*◌, ◌-◌, ◌<◌, ◌≤◌, ◌&&◌, ℕ, IfSome, find, is_none, length, true};
+ghost use Rattle.std.specs.Prelude.{◌≡◌, ◌*◌, ◌-◌, ◌<◌, ◌≤◌, ◌&&◌, ℕ, IfSome, find, is_none};
+ghost use Rattle.std.specs.Prelude.{length, true};
 ghost use Rattle.std.specs.List.{list_any, range_with_len};
 ghost use Rattle.cfs_file.specs.declared.sizes.TheConstants.{BLOCK_LEN};
 ghost use Rattle.cfs_core.specs.declared.event.Event.TheVariants as events;

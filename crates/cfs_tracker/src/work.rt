@@ -4,7 +4,8 @@ ghost use Rattle.std.specs.Prelude.{◌≡◌, ◌&&◌, Some, find, nat_lt, opt
 ghost use Rattle.std.specs.List.{list_any};
 ghost use Rattle.cfs_tracker.specs.Passed.{IsOf};
 ghost use Rattle.cfs_tracker.specs.View.{entry_at, view_of};
-ghost use Rattle.cfs_tracker.specs.Work.{is_noop_doing, is_to_do, is_waiting_read, next_work, read_waits, work_of};
+ghost use Rattle.cfs_tracker.specs.Work.{is_noop_doing, is_to_do, is_waiting_read, next_work};
+ghost use Rattle.cfs_tracker.specs.Work.{read_waits, work_of};
 
 use crate::find::entry_of;
 use crate::passed::Passed;

@@ -11,5 +11,10 @@ open_for (Some block) slots place h = h
 pub new-requires : goal.new-requires
 new-requires c =
     let spans = c.in_ok-span.ensures ∙ ap (λ r. span r 0) (sym c.in_ok-live.ensures.request) in
-    let touched = sym c.fits.ensures ∙ c.if-fits.true in
-    (omega arith, (omega arith, ((λ some. spans), (touched, open_for c.args.first _ _ c.in_ok-live.ensures.opened))))
+    let touched = sym c.fits.ensures ∙ c.if-fits.true in (
+      omega arith,
+      (
+        omega arith,
+        ((λ some. spans), (touched, open_for c.args.first _ _ c.in_ok-live.ensures.opened)),
+      ),
+    )

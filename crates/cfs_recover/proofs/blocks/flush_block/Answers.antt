@@ -1,5 +1,6 @@
 use Rattle.std.proofs.Common.{get_or}
-use Rattle.cfs_recover.proofs.BlockCalls.{cause-of, devices-same_at, flush-beside, flush-devices, flush-is, flush-moments, map-same_at, on-ok}
+use Rattle.cfs_recover.proofs.BlockCalls.{cause-of, devices-same_at, flush-beside, flush-devices}
+use Rattle.cfs_recover.proofs.BlockCalls.{flush-is, flush-moments, map-same_at, on-ok}
 use Rattle.cfs_recover.proofs.blocks.flush_block.Goals as goal
 
 pub returns-clause-ok : goal.returns-clause-ok

@@ -1,5 +1,6 @@
 use Rattle.std.proofs.Common.{get_or, length}
-use Rattle.cfs_recover.proofs.BlockCalls.{cause-of, devices-same_at, map-same_at, on-ok, write-beside, write-devices, write-is, write-moments}
+use Rattle.cfs_recover.proofs.BlockCalls.{cause-of, devices-same_at, map-same_at, on-ok}
+use Rattle.cfs_recover.proofs.BlockCalls.{write-beside, write-devices, write-is, write-moments}
 use Rattle.cfs_recover.proofs.blocks.write_block.Goals as goal
 
 pub returns-clause-ok : goal.returns-clause-ok

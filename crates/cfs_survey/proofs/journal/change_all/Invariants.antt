@@ -9,6 +9,10 @@ use Rattle.cfs_survey.proofs.journal.change_all.Given as goal
 
 abbrev pub invariant-loop-k : goal.invariant-loop-k
 invariant-loop-k l = record {
-  sound : damage_of (checks_from (reached_checks l.at l.through (tree_of l.initial.tree) (places_of l.initial.tree) (reached l.through l.journal)) 0 l.k) ≡ None;
-  so_far : IsSoFar l.at l.through (tree_of l.initial.tree) (places_of l.initial.tree) l.journal l.k (tree_of l.tree) (places_of l.tree);
+  sound : damage_of
+      (checks_from
+      (reached_checks l.at l.through (tree_of l.initial.tree) (places_of l.initial.tree)
+      (reached l.through l.journal)) 0 l.k) ≡ None;
+  so_far : IsSoFar l.at l.through (tree_of l.initial.tree) (places_of l.initial.tree) l.journal l.k
+      (tree_of l.tree) (places_of l.tree);
 }

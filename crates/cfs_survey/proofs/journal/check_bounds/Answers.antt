@@ -9,7 +9,9 @@ pub returns-in_err-check_bound : goal.returns-in_err-check_bound
 returns-in_err-check_bound c =
     let p = err_from_is_err_and c.from_residual.result c.from_residual.ensures.1 in
     let each = bound_checks c.args.at c.args.journal.now c.args.last in
-    let f = fails_at each 0 c.loop-position.position 64 c.loop-position.position (damage_in c.in_err-check_bound.field-0.0) (omega arith) (omega arith) c.loop-position.invariant (sym c.in_err-check_bound.ensures) in
+    let f = fails_at each 0 c.loop-position.position 64 c.loop-position.position
+    (damage_in c.in_err-check_bound.field-0.0) (omega arith) (omega arith)
+    c.loop-position.invariant (sym c.in_err-check_bound.ensures) in
     ap reported p.1 ∙ ap (λ e. Some (damage_in e)) p.2 ∙ sym f
 
 pub loop-position-init : goal.loop-position-init
@@ -17,4 +19,6 @@ loop-position-init c = none_yet (bound_checks c.args.at c.args.journal.now c.arg
 
 pub loop-position-preserved : goal.loop-position-preserved
 loop-position-preserved c =
-    sound_more (bound_checks c.args.at c.args.journal.now c.args.last) 0 c.loop-position.position c.loop-position.position (omega arith) c.loop-position.invariant (sym c.in_ok-check_bound.ensures)
+    sound_more (bound_checks c.args.at c.args.journal.now c.args.last) 0 c.loop-position.position
+    c.loop-position.position (omega arith) c.loop-position.invariant
+    (sym c.in_ok-check_bound.ensures)

@@ -12,4 +12,5 @@ loop-rec-preserved c =
     ∙ ap (λ (xs : List ℕ). xs ++ c.place_in_table.result ∷ []) c.loop-rec.invariant
     ∙ ap (λ (x : ℕ). map (row_at c.args.table_at) first ++ x ∷ []) c.place_in_table.ensures
     ∙ sym (map-append (row_at c.args.table_at) first (c.loop-rec.rec ∷ []))
-    ∙ ap (map (row_at c.args.table_at)) (sym (range_more 0 c.loop-rec.rec c.loop-rec.rec (omega arith)))
+    ∙ ap (map (row_at c.args.table_at))
+    (sym (range_more 0 c.loop-rec.rec c.loop-rec.rec (omega arith)))

@@ -16,18 +16,21 @@ returns-in_err-read_tag-clause-named c =
     let each = tag_checks c.args.at c.args.nodes.now c.args.tags.now in
     let all : ℕ = length c.args.tags.now in
     refused_with r.result (checks_from each 0 all) p.0 c.in_err-read_tag.field-0.0 p.1 p.2
-    (refused_at each 0 c.loop-block.block all c.loop-block.block c.in_err-read_tag.field-0.0 (omega arith) (omega arith) c.loop-block.invariant.sound c.in_err-read_tag.ensures.named)
+    (refused_at each 0 c.loop-block.block all c.loop-block.block c.in_err-read_tag.field-0.0
+    (omega arith) (omega arith) c.loop-block.invariant.sound c.in_err-read_tag.ensures.named)
 
 pub loop-block-preserved : goal.loop-block-preserved
 loop-block-preserved c = record {
-  sound = sound_more (tag_checks c.args.at c.args.nodes.now c.args.tags.now) 0 c.loop-block.block c.loop-block.block (omega arith) c.loop-block.invariant.sound c.in_ok-read_tag.ensures.sound;
+  sound = sound_more (tag_checks c.args.at c.args.nodes.now c.args.tags.now) 0 c.loop-block.block
+      c.loop-block.block (omega arith) c.loop-block.invariant.sound c.in_ok-read_tag.ensures.sound;
   blocks = c.in_ok-read_tag.ensures.noted;
 }
 
 pub loop-block-init : goal.loop-block-init
 loop-block-init c = record {
   sound = none_yet (tag_checks c.args.at c.args.nodes.now c.args.tags.now) 0;
-  blocks = none_mapped c.args.nodes.now c.args.tags.now c.in_ok-blocks.blocks c.in_ok-blocks.ensures.empty;
+  blocks = none_mapped c.args.nodes.now c.args.tags.now c.in_ok-blocks.blocks
+      c.in_ok-blocks.ensures.empty;
 }
 
 pub returns-clause-sound : goal.returns-clause-sound

@@ -1,5 +1,6 @@
 use Rattle.std.proofs.Common.{◌∙◌, inl, inr, [], refl, sym}
-use Rattle.cfs_top.proofs.Ends.{Consumes-none, kept_shelf, mkfs_ends, output_input, output_shelf, play_writes, said_writes, upgrade_ends, usage_input, usage_shelf}
+use Rattle.cfs_top.proofs.Ends.{Consumes-none, kept_shelf, mkfs_ends, output_input, output_shelf}
+use Rattle.cfs_top.proofs.Ends.{play_writes, said_writes, upgrade_ends, usage_input, usage_shelf}
 use Rattle.cfs_top.specs.Outside.{SaveNone}
 use Rattle.cfs_top.proofs.steady.crossfs_steady.Goals as goal
 
@@ -8,7 +9,8 @@ returns-in-Some-clause-ends g c = mkfs_ends _ _ _ _ _ _ _ _ _ c.in-Some.ensures.
 
 pub returns-in-Some-image_to_upgrade-clause-ends : goal.returns-in-Some-image_to_upgrade-clause-ends
 returns-in-Some-image_to_upgrade-clause-ends g c =
-    upgrade_ends _ _ _ _ _ _ _ _ _ c.in-Some-image_to_upgrade.ensures.found c.upgrade.ensures.writes c.upgrade.ensures.upgrades
+    upgrade_ends _ _ _ _ _ _ _ _ _ c.in-Some-image_to_upgrade.ensures.found c.upgrade.ensures.writes
+    c.upgrade.ensures.upgrades
 
 pub returns-in-Some-image_to_play-clause-ends : goal.returns-in-Some-image_to_play-clause-ends
 returns-in-Some-image_to_play-clause-ends g c =
@@ -17,7 +19,8 @@ returns-in-Some-image_to_play-clause-ends g c =
       λ upgrade. c.in_default-image_to_upgrade.ensures.none upgrade.0 upgrade.1.0 upgrade.1.1,
     ) in
     record {
-      writes = play_writes _ _ _ _ _ _ _ (_, c.in-Some-image_to_play.ensures.found) c.play.ensures.writes;
+      writes = play_writes _ _ _ _ _ _ _ (_, c.in-Some-image_to_play.ensures.found)
+          c.play.ensures.writes;
       asked = λ input. (_, c.in-Some-image_to_play.ensures.found);
       came = c.play.ensures.came;
       unread = λ other. absurd (other (_, c.in-Some-image_to_play.ensures.found));
@@ -31,9 +34,16 @@ returns-in-None-clause-ends g c =
       λ upgrade. c.in_default-image_to_upgrade.ensures.none upgrade.0 upgrade.1.0 upgrade.1.1,
     ) in
     record {
-      writes = said_writes _ _ _ _ _ _ tt (inr (inr (inr ((λ play. c.in-None.ensures.none play.0 play.1, none), refl, refl)))) c.say.ensures.said;
+      writes = said_writes _ _ _ _ _ _ tt
+          (inr (inr (inr ((λ play. c.in-None.ensures.none play.0 play.1, none), refl, refl))))
+          c.say.ensures.said;
       asked = λ input. elim c.say.ensures.said [ inl all ↦ absurd (usage_input (sym all.0 ∙ input)) | inr front ↦ absurd (output_input (sym front.0 ∙ input)) ];
       came = ([], Consumes-none _);
       unread = λ other. refl;
-      shelf = kept_shelf _ _ _ none (λ shelf. elim c.say.ensures.said [ inl all ↦ usage_shelf (sym all.0 ∙ shelf) | inr front ↦ output_shelf (sym front.0 ∙ shelf) ]);
+      shelf = kept_shelf _ _ _ none
+          (λ shelf. elim c.say.ensures.said [
+            | inl all ↦ usage_shelf (sym all.0 ∙ shelf)
+            | inr front ↦
+                output_shelf (sym front.0 ∙ shelf)
+          ]);
     }

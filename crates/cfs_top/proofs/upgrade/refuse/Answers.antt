@@ -5,5 +5,6 @@ use Rattle.cfs_top.proofs.upgrade.refuse.Goals as goal
 
 pub returns-in-Ok-clause-said : goal.returns-in-Ok-clause-said
 returns-in-Ok-clause-said g c =
-    inr (subst (λ (text : List ℕ). Says c.say.result Image text (g.K.Sink.written c.args.output.now) (g.K.Sink.written c.say.new.output))
+    inr (subst (λ (text : List ℕ). Says c.say.result Image text (g.K.Sink.written c.args.output.now)
+    (g.K.Sink.written c.say.new.output))
     (c.as_bytes.ensures.value ∙ c.in-Ok.ensures) c.say.ensures.said)

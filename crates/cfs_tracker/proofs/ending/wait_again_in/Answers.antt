@@ -5,7 +5,8 @@ use Rattle.cfs_tracker.proofs.ending.wait_again_in.Goals as goal
 
 pub returns-in_default : goal.returns-in_default
 returns-in_default g c =
-    sym (with-none c.args.entries.now c.args.place (again_entry c.args.slots c.args.applied c.args.done.0 c.args.done.1)
+    sym (with-none c.args.entries.now c.args.place
+    (again_entry c.args.slots c.args.applied c.args.done.0 c.args.done.1)
     (missed c.args.entries.now c.args.place (sym c.position_of.ensures ∙ c.in_default.is)))
 
 pub returns : goal.returns
@@ -13,4 +14,6 @@ returns g c =
     let es = c.args.entries.now in
     let found = position-less es c.args.place c.in-Some.at (sym c.position_of.ensures ∙ c.in-Some.is) in
     rw c.put_again.ensures
-    (sym (with-at es c.args.place (again_entry c.args.slots c.args.applied c.args.done.0 c.args.done.1) c.index-entries-at.result c.in-Some.at found.1 found.0))
+    (sym (with-at es c.args.place
+    (again_entry c.args.slots c.args.applied c.args.done.0 c.args.done.1)
+    c.index-entries-at.result c.in-Some.at found.1 found.0))

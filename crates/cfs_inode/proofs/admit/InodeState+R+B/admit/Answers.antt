@@ -1,4 +1,5 @@
-use Rattle.std.proofs.Common.{rules, ◌≡◌, ◌∙◌, ◌≤◌, ◌<◌, ◌+◌, ap, arith, length, map, None, subst, sym, ℕ}
+use Rattle.std.proofs.Common.{rules, ◌≡◌, ◌∙◌, ◌≤◌, ◌<◌, ◌+◌, ap, arith, length, map, None, subst}
+use Rattle.std.proofs.Common.{sym, ℕ}
 use Rattle.std.specs.Prelude.{vec_capacity, vec_len}
 use Rattle.std.proofs.lemmas.List.{length-map}
 use Rattle.cfs_file.specs.declared.sizes.TheConstants.{LONGEST_FILE}
@@ -14,7 +15,9 @@ use Rattle.cfs_inode.specs.Ends.{closed, nothing}
 use Rattle.cfs_inode.specs.Placing.{staged_seens}
 use Rattle.cfs_inode.specs.Tagging.{stock_of}
 use Rattle.cfs_inode.specs.View.{StateView, seens_of, state_view, told_doubt, told_option}
-use Rattle.cfs_inode.proofs.Admittings.{admission-few, admission-long, admission-settles, admission-unsettled, closed-settled, long-enough, nothing-settled, too-long}
+use Rattle.cfs_inode.proofs.Admittings.{admission-few, admission-long, admission-settles}
+use Rattle.cfs_inode.proofs.Admittings.{admission-unsettled, closed-settled, long-enough}
+use Rattle.cfs_inode.proofs.Admittings.{nothing-settled, too-long}
 use Rattle.cfs_inode.proofs.Mappings.{end-fits}
 use Rattle.cfs_inode.proofs.MapTells.{state-bare, stocked-told}
 use Rattle.cfs_inode.proofs.admit.InodeState+R+B.admit.Goals as goal

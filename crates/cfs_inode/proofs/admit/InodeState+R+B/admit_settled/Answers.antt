@@ -10,7 +10,8 @@ use Rattle.cfs_inode.specs.Admitting.{ReadyMakes, admit_end}
 use Rattle.cfs_inode.specs.Placing.{staged_seens}
 use Rattle.cfs_inode.specs.Tagging.{stock_of}
 use Rattle.cfs_inode.specs.View.{state_view}
-use Rattle.cfs_inode.proofs.Admittings.{mapped-may, settled-mapped, settled-unmapped, settled-unplaced}
+use Rattle.cfs_inode.proofs.Admittings.{mapped-may, settled-mapped, settled-unmapped}
+use Rattle.cfs_inode.proofs.Admittings.{settled-unplaced}
 use Rattle.cfs_inode.proofs.admit.InodeState+R+B.admit_settled.Goals as goal
 
 pub admit_ready-requires : goal.admit_ready-requires

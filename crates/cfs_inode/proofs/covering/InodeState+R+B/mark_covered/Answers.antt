@@ -1,7 +1,8 @@
 use Rattle.std.proofs.Common.{◌+◌, ◌≤◌, arith, None, Some, subst, sym, ℕ}
 use Rattle.cfs_inode.specs.Covering.{is_marked}
 use Rattle.cfs_inode.specs.View.{state_view}
-use Rattle.cfs_inode.proofs.Coverings.{HasMarked, at-most-one, marked-all, marked-next, marked-none, named-is}
+use Rattle.cfs_inode.proofs.Coverings.{HasMarked, at-most-one, marked-all, marked-next, marked-none}
+use Rattle.cfs_inode.proofs.Coverings.{named-is}
 use Rattle.cfs_inode.proofs.CoverTells.{state-next}
 use Rattle.cfs_inode.proofs.covering.InodeState+R+B.mark_covered.Goals as goal
 

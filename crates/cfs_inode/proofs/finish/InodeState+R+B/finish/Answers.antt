@@ -1,4 +1,5 @@
-use Rattle.std.proofs.Common.{◌≡◌, ◌∙◌, ap, ℕ, Bool, ◌∷◌, map, Ok, Err, refl, subst, sym, arith, rules}
+use Rattle.std.proofs.Common.{◌≡◌, ◌∙◌, ap, ℕ, Bool, ◌∷◌, map, Ok, Err, refl, subst, sym, arith}
+use Rattle.std.proofs.Common.{rules}
 use Rattle.cfs_job.specs.Jobs.{job_view, request_in}
 use Rattle.cfs_job.specs.Steps.{steps_left}
 use Rattle.cfs_slot.specs.declared.live.Live.{Live}
@@ -13,7 +14,8 @@ use Rattle.cfs_inode.specs.Ends.{Closes}
 use Rattle.cfs_inode.specs.Finishing.{IsAllDone, closing, is_right, keeping, writing}
 use Rattle.cfs_inode.specs.View.{Held, StateView, held_of, seens_of, state_view}
 use Rattle.cfs_inode.proofs.Closings.{closes-err, closes-ok}
-use Rattle.cfs_inode.proofs.EndTells.{CameBack, applied-is, came-apart, has-out, last-told, more-is, put-back-is, retired-is, size-told, unsure-is}
+use Rattle.cfs_inode.proofs.EndTells.{CameBack, applied-is, came-apart, has-out, last-told, more-is}
+use Rattle.cfs_inode.proofs.EndTells.{put-back-is, retired-is, size-told, unsure-is}
 use Rattle.cfs_inode.proofs.Finishings.{fails-made, more-made, retired-made}
 use Rattle.cfs_inode.proofs.Resting.{rests}
 use Rattle.cfs_inode.proofs.Sizings.{none-left, sizes-are}
@@ -32,7 +34,8 @@ more-requires g c =
     c.place-place.result job.place c.into_parts-live.result.0 (request_in c.args.job)
     c.into_parts-live.result.1 c.into_parts-live.result.2 c.tile_from-first.result
     c.tile_from-second.result c.args.job.first c.args.job.second c.place-place.ensures
-    c.into_parts-live.ensures.request c.into_parts-live.ensures.first c.into_parts-live.ensures.second
+    c.into_parts-live.ensures.request c.into_parts-live.ensures.first
+    c.into_parts-live.ensures.second
     c.tile_from-first.ensures c.tile_from-second.ensures in
     has-out (held_of g.R.Region.seen) (seens_of g.R.Region.seen) g.B.Block.seen
     (view_of c.args.self.now.tracker) c.place-place.result job.place c.into_parts-live.result.0
@@ -47,9 +50,11 @@ returns-then-not-is_last-clause-finishes g c =
     c.place-place.result job.place c.into_parts-live.result.0 (request_in c.args.job)
     c.into_parts-live.result.1 c.into_parts-live.result.2 c.tile_from-first.result
     c.tile_from-second.result c.args.job.first c.args.job.second c.place-place.ensures
-    c.into_parts-live.ensures.request c.into_parts-live.ensures.first c.into_parts-live.ensures.second
+    c.into_parts-live.ensures.request c.into_parts-live.ensures.first
+    c.into_parts-live.ensures.second
     c.tile_from-first.ensures c.tile_from-second.ensures in
-    let none : steps_left job ≡ 0 = sym c.left.ensures ∙ none-left c.left.result c.if-left-gt0.false in
+    let none : steps_left job ≡ 0 =
+    sym c.left.ensures ∙ none-left c.left.result c.if-left-gt0.false in
     let last = last-told (held_of g.R.Region.seen) (seens_of g.R.Region.seen) g.B.Block.seen
     (view_of c.args.self.now.tracker) job.place
     ∙ (ap (λ (p : ℕ). is_last (view_of c.args.self.now.tracker) p) (sym c.place-place.ensures)
@@ -59,7 +64,8 @@ returns-then-not-is_last-clause-finishes g c =
       refl,
       ap (λ t. record old { tracker = t }) (more-is (held_of g.R.Region.seen)
           (seens_of g.R.Region.seen) g.B.Block.seen (view_of c.args.self.now.tracker)
-          (view_of c.more.new.self) c.place-place.result job.place c.into_parts-live.result.0 (held_back job)
+          (view_of c.more.new.self) c.place-place.result job.place c.into_parts-live.result.0
+          (held_back job)
           c.tile_from-first.result c.tile_from-second.result (tile_back job.first)
           (tile_back job.second) came c.more.ensures.view),
     )
@@ -83,7 +89,8 @@ retired-requires-clause-out g c =
     c.place-place.result job.place c.into_parts-live.result.0 (request_in c.args.job)
     c.into_parts-live.result.1 c.into_parts-live.result.2 c.tile_from-first.result
     c.tile_from-second.result c.args.job.first c.args.job.second c.place-place.ensures
-    c.into_parts-live.ensures.request c.into_parts-live.ensures.first c.into_parts-live.ensures.second
+    c.into_parts-live.ensures.request c.into_parts-live.ensures.first
+    c.into_parts-live.ensures.second
     c.tile_from-first.ensures c.tile_from-second.ensures in
     has-out (held_of g.R.Region.seen) (seens_of g.R.Region.seen) g.B.Block.seen
     (view_of c.args.self.now.tracker) c.place-place.result job.place c.into_parts-live.result.0
@@ -97,7 +104,8 @@ applied-requires-clause-out g c =
     c.place-place.result job.place c.into_parts-live.result.0 (request_in c.args.job)
     c.into_parts-live.result.1 c.into_parts-live.result.2 c.tile_from-first.result
     c.tile_from-second.result c.args.job.first c.args.job.second c.place-place.ensures
-    c.into_parts-live.ensures.request c.into_parts-live.ensures.first c.into_parts-live.ensures.second
+    c.into_parts-live.ensures.request c.into_parts-live.ensures.first
+    c.into_parts-live.ensures.second
     c.tile_from-first.ensures c.tile_from-second.ensures in
     has-out (held_of g.R.Region.seen) (seens_of g.R.Region.seen) g.B.Block.seen
     (view_of c.args.self.now.tracker) c.place-place.result job.place c.into_parts-live.result.0
@@ -111,7 +119,8 @@ put_back-requires g c =
     c.place-place.result job.place c.into_parts-live.result.0 (request_in c.args.job)
     c.into_parts-live.result.1 c.into_parts-live.result.2 c.tile_from-first.result
     c.tile_from-second.result c.args.job.first c.args.job.second c.place-place.ensures
-    c.into_parts-live.ensures.request c.into_parts-live.ensures.first c.into_parts-live.ensures.second
+    c.into_parts-live.ensures.request c.into_parts-live.ensures.first
+    c.into_parts-live.ensures.second
     c.tile_from-first.ensures c.tile_from-second.ensures in
     has-out (held_of g.R.Region.seen) (seens_of g.R.Region.seen) g.B.Block.seen
     (view_of c.args.self.now.tracker) c.place-place.result job.place c.into_parts-live.result.0
@@ -125,7 +134,8 @@ size_unsure-requires g c =
     c.place-place.result job.place c.into_parts-live.result.0 (request_in c.args.job)
     c.into_parts-live.result.1 c.into_parts-live.result.2 c.tile_from-first.result
     c.tile_from-second.result c.args.job.first c.args.job.second c.place-place.ensures
-    c.into_parts-live.ensures.request c.into_parts-live.ensures.first c.into_parts-live.ensures.second
+    c.into_parts-live.ensures.request c.into_parts-live.ensures.first
+    c.into_parts-live.ensures.second
     c.tile_from-first.ensures c.tile_from-second.ensures in
     has-out (held_of g.R.Region.seen) (seens_of g.R.Region.seen) g.B.Block.seen
     (view_of c.args.self.now.tracker) c.place-place.result job.place c.into_parts-live.result.0
@@ -140,9 +150,11 @@ returns-in-Ok-clause-finishes g c =
     c.place-place.result job.place c.into_parts-live.result.0 (request_in c.args.job)
     c.into_parts-live.result.1 c.into_parts-live.result.2 c.tile_from-first.result
     c.tile_from-second.result c.args.job.first c.args.job.second c.place-place.ensures
-    c.into_parts-live.ensures.request c.into_parts-live.ensures.first c.into_parts-live.ensures.second
+    c.into_parts-live.ensures.request c.into_parts-live.ensures.first
+    c.into_parts-live.ensures.second
     c.tile_from-first.ensures c.tile_from-second.ensures in
-    let none : steps_left job ≡ 0 = sym c.left.ensures ∙ none-left c.left.result c.if-left-gt0.false in
+    let none : steps_left job ≡ 0 =
+    sym c.left.ensures ∙ none-left c.left.result c.if-left-gt0.false in
     let all : IsAllDone old job = record {
       none_left = none;
       last = last-told (held_of g.R.Region.seen) (seens_of g.R.Region.seen) g.B.Block.seen
@@ -181,7 +193,8 @@ returns-in-Ok-clause-finishes g c =
       },
       ap (λ t. record old { size = size; tracker = t }) (retired-is (held_of g.R.Region.seen)
           (seens_of g.R.Region.seen) g.B.Block.seen (view_of c.args.self.now.tracker)
-          (view_of c.retired.new.self) c.place-place.result job.place c.into_parts-live.result.0 (held_back job)
+          (view_of c.retired.new.self) c.place-place.result job.place c.into_parts-live.result.0
+          (held_back job)
           c.tile_from-first.result c.tile_from-second.result (tile_back job.first)
           (tile_back job.second) came c.retired.ensures.view),
     )
@@ -205,9 +218,11 @@ returns-in-Err-clause-finishes g c =
     c.place-place.result job.place c.into_parts-live.result.0 (request_in c.args.job)
     c.into_parts-live.result.1 c.into_parts-live.result.2 c.tile_from-first.result
     c.tile_from-second.result c.args.job.first c.args.job.second c.place-place.ensures
-    c.into_parts-live.ensures.request c.into_parts-live.ensures.first c.into_parts-live.ensures.second
+    c.into_parts-live.ensures.request c.into_parts-live.ensures.first
+    c.into_parts-live.ensures.second
     c.tile_from-first.ensures c.tile_from-second.ensures in
-    let none : steps_left job ≡ 0 = sym c.left.ensures ∙ none-left c.left.result c.if-left-gt0.false in
+    let none : steps_left job ≡ 0 =
+    sym c.left.ensures ∙ none-left c.left.result c.if-left-gt0.false in
     let all : IsAllDone old job = record {
       none_left = none;
       last = last-told (held_of g.R.Region.seen) (seens_of g.R.Region.seen) g.B.Block.seen
@@ -242,7 +257,8 @@ returns-in-Err-clause-finishes g c =
     (tile_back job.second) = record {
       place_is = came.place_is;
       slots_are = ap (λ (p : ℕ). let h : Held = record { place = p; slots = slots } in h)
-          (c.in-Err.ensures.place ∙ ap (λ (l : Live _ _). place_of l) c.into_parts-live.ensures.request);
+          (c.in-Err.ensures.place ∙ ap (λ (l : Live _ _). place_of l)
+          c.into_parts-live.ensures.request);
       first_is = came.first_is;
       second_is = came.second_is;
     } in (
@@ -283,9 +299,11 @@ returns-in-Unwritten-clause-finishes g c =
     c.place-place.result job.place c.into_parts-live.result.0 (request_in c.args.job)
     c.into_parts-live.result.1 c.into_parts-live.result.2 c.tile_from-first.result
     c.tile_from-second.result c.args.job.first c.args.job.second c.place-place.ensures
-    c.into_parts-live.ensures.request c.into_parts-live.ensures.first c.into_parts-live.ensures.second
+    c.into_parts-live.ensures.request c.into_parts-live.ensures.first
+    c.into_parts-live.ensures.second
     c.tile_from-first.ensures c.tile_from-second.ensures in
-    let none : steps_left job ≡ 0 = sym c.left.ensures ∙ none-left c.left.result c.if-left-gt0.false in
+    let none : steps_left job ≡ 0 =
+    sym c.left.ensures ∙ none-left c.left.result c.if-left-gt0.false in
     let all : IsAllDone old job = record {
       none_left = none;
       last = last-told (held_of g.R.Region.seen) (seens_of g.R.Region.seen) g.B.Block.seen
@@ -314,7 +332,8 @@ returns-in-Unwritten-clause-finishes g c =
         sized,
         ap (λ t. record old { size = size; tracker = t }) (put-back-is (held_of g.R.Region.seen)
             (seens_of g.R.Region.seen) g.B.Block.seen (view_of c.args.self.now.tracker)
-            (view_of c.put_back.new.self) c.place-place.result job.place c.into_parts-live.result.0 (held_back job)
+            (view_of c.put_back.new.self) c.place-place.result job.place c.into_parts-live.result.0
+            (held_back job)
             c.tile_from-first.result c.tile_from-second.result (tile_back job.first)
             (tile_back job.second) came c.put_back.ensures.view),
       ),
@@ -339,9 +358,11 @@ returns-in-Unkept-clause-finishes g c =
     c.place-place.result job.place c.into_parts-live.result.0 (request_in c.args.job)
     c.into_parts-live.result.1 c.into_parts-live.result.2 c.tile_from-first.result
     c.tile_from-second.result c.args.job.first c.args.job.second c.place-place.ensures
-    c.into_parts-live.ensures.request c.into_parts-live.ensures.first c.into_parts-live.ensures.second
+    c.into_parts-live.ensures.request c.into_parts-live.ensures.first
+    c.into_parts-live.ensures.second
     c.tile_from-first.ensures c.tile_from-second.ensures in
-    let none : steps_left job ≡ 0 = sym c.left.ensures ∙ none-left c.left.result c.if-left-gt0.false in
+    let none : steps_left job ≡ 0 =
+    sym c.left.ensures ∙ none-left c.left.result c.if-left-gt0.false in
     let all : IsAllDone old job = record {
       none_left = none;
       last = last-told (held_of g.R.Region.seen) (seens_of g.R.Region.seen) g.B.Block.seen
@@ -370,7 +391,8 @@ returns-in-Unkept-clause-finishes g c =
         sized,
         ap (λ t. record old { size = size; tracker = t }) (unsure-is (held_of g.R.Region.seen)
             (seens_of g.R.Region.seen) g.B.Block.seen (view_of c.args.self.now.tracker)
-            (view_of c.size_unsure.new.self) c.place-place.result job.place c.into_parts-live.result.0 (held_back job)
+            (view_of c.size_unsure.new.self) c.place-place.result job.place
+            c.into_parts-live.result.0 (held_back job)
             c.tile_from-first.result c.tile_from-second.result (tile_back job.first)
             (tile_back job.second) came c.size_unsure.ensures.view),
       ),

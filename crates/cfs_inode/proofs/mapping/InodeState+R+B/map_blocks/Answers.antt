@@ -1,4 +1,5 @@
-use Rattle.std.proofs.Common.{rules, ◌≡◌, ◌∙◌, ◌≤◌, ◌<◌, ap, arith, length, None, Some, not, refl, subst, sym, ℕ}
+use Rattle.std.proofs.Common.{rules, ◌≡◌, ◌∙◌, ◌≤◌, ◌<◌, ap, arith, length, None, Some, not, refl}
+use Rattle.std.proofs.Common.{subst, sym, ℕ}
 use Rattle.std.proofs.lemmas.List.{length-map}
 use Rattle.cfs_file.specs.declared.sizes.TheConstants.{FILE_BLOCKS}
 use Rattle.cfs_file.specs.Span.{EndFits, span}
@@ -8,7 +9,8 @@ use Rattle.cfs_tracker.specs.View.{view_of}
 use Rattle.cfs_vec.specs.Items.{items_of}
 use Rattle.cfs_inode.specs.Tagging.{stock_of}
 use Rattle.cfs_inode.specs.View.{StateView, state_view, told_cell}
-use Rattle.cfs_inode.proofs.Mappings.{end-fits, first-is, mapped-all, mapped-failed, mapping-fewer, mapping-next, mapping-none, needed-within, stock-some}
+use Rattle.cfs_inode.proofs.Mappings.{end-fits, first-is, mapped-all, mapped-failed, mapping-fewer}
+use Rattle.cfs_inode.proofs.Mappings.{mapping-next, mapping-none, needed-within, stock-some}
 use Rattle.cfs_inode.proofs.MapTells.{state-first, stocked-back, stocked-told}
 use Rattle.cfs_inode.proofs.mapping.InodeState+R+B.map_blocks.Goals as goal
 
@@ -61,7 +63,8 @@ tag-requires g c =
               less,
               (
                 first-is view.cells own block first,
-                stock-some view.cells own block (length (items_of c.loop-block.stock)) first stocked,
+                stock-some view.cells own block (length (items_of c.loop-block.stock)) first
+                    stocked,
               ),
             ),
           ),

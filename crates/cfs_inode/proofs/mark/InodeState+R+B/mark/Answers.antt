@@ -1,4 +1,5 @@
-use Rattle.std.proofs.Common.{◌∙◌, ap, arith, [], ◌∷◌, map, None, Some, true, false, refl, subst, sym}
+use Rattle.std.proofs.Common.{◌∙◌, ap, arith, [], ◌∷◌, map, None, Some, true, false, refl, subst}
+use Rattle.std.proofs.Common.{sym}
 use Rattle.cfs_core.specs.declared.event.Event.TheVariants as events
 use Rattle.cfs_slot.specs.Regions.{of_live, tails_of_live}
 use Rattle.cfs_tracker.specs.View.{view_of}

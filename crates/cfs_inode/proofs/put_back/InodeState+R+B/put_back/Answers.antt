@@ -14,7 +14,8 @@ put_back-requires g c =
     c.place-place.result job.place c.into_parts-live.result.0 (request_in c.args.job)
     c.into_parts-live.result.1 c.into_parts-live.result.2 c.tile_from-first.result
     c.tile_from-second.result c.args.job.first c.args.job.second c.place-place.ensures
-    c.into_parts-live.ensures.request c.into_parts-live.ensures.first c.into_parts-live.ensures.second
+    c.into_parts-live.ensures.request c.into_parts-live.ensures.first
+    c.into_parts-live.ensures.second
     c.tile_from-first.ensures c.tile_from-second.ensures in
     has-out (held_of g.R.Region.seen) (seens_of g.R.Region.seen) g.B.Block.seen
     (view_of c.args.self.now.tracker) c.place-place.result job.place c.into_parts-live.result.0
@@ -29,7 +30,8 @@ returns-clause-view g c =
     c.place-place.result job.place c.into_parts-live.result.0 (request_in c.args.job)
     c.into_parts-live.result.1 c.into_parts-live.result.2 c.tile_from-first.result
     c.tile_from-second.result c.args.job.first c.args.job.second c.place-place.ensures
-    c.into_parts-live.ensures.request c.into_parts-live.ensures.first c.into_parts-live.ensures.second
+    c.into_parts-live.ensures.request c.into_parts-live.ensures.first
+    c.into_parts-live.ensures.second
     c.tile_from-first.ensures c.tile_from-second.ensures in
     ap (λ t. record old { tracker = t })
     (put-back-is (held_of g.R.Region.seen) (seens_of g.R.Region.seen) g.B.Block.seen

@@ -6,7 +6,8 @@ use Rattle.cfs_tracker.specs.Cells.{cell_at, moving}
 use Rattle.cfs_tracker.specs.View.{view_of}
 use Rattle.cfs_inode.specs.Serves.{Reads, home_byte, home_device, read_ask}
 use Rattle.cfs_inode.specs.View.{state_view, told_cell}
-use Rattle.cfs_inode.proofs.Copies.{away-byte, away-device, bytes-read, cell-seen, home-is, none-under, ok-also, some-home, state-read-back}
+use Rattle.cfs_inode.proofs.Copies.{away-byte, away-device, bytes-read, cell-seen, home-is}
+use Rattle.cfs_inode.proofs.Copies.{none-under, ok-also, some-home, state-read-back}
 use Rattle.cfs_inode.proofs.ReadSteps.{read-once}
 use Rattle.cfs_inode.proofs.Resting.{rests}
 use Rattle.cfs_inode.proofs.Serving.{read-makes}

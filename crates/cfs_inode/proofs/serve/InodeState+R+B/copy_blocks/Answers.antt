@@ -1,11 +1,13 @@
-use Rattle.std.proofs.Common.{◌≡◌, ◌∙◌, ◌+◌, ◌-◌, ◌*◌, ◌/◌, ◌<◌, ◌≤◌, [], ap, arith, drop, length, min, refl, subst, sym, take}
+use Rattle.std.proofs.Common.{◌≡◌, ◌∙◌, ◌+◌, ◌-◌, ◌*◌, ◌/◌, ◌<◌, ◌≤◌, [], ap, arith, drop, length}
+use Rattle.std.proofs.Common.{min, refl, subst, sym, take}
 use Rattle.std.proofs.lemmas.Result.{err_from_is_err_and}
 use Rattle.cfs_file.specs.declared.sizes.TheConstants.{BLOCK_LEN}
 use Rattle.cfs_tracker.specs.Cells.{cell_at}
 use Rattle.cfs_inode.specs.Makes.{CallMakes}
 use Rattle.cfs_inode.specs.Serves.{Reads, blocks_between, end_block, home_byte, home_devices}
 use Rattle.cfs_inode.specs.View.{StateView, state_view}
-use Rattle.cfs_inode.proofs.Copies.{copied-more, end-above, is-between, is-piece, part-long, past-end, put-long}
+use Rattle.cfs_inode.proofs.Copies.{copied-more, end-above, is-between, is-piece, part-long}
+use Rattle.cfs_inode.proofs.Copies.{past-end, put-long}
 use Rattle.cfs_inode.proofs.ReadSteps.{AreRead, none-read, read-ends, read-next}
 use Rattle.cfs_inode.proofs.Resting.{rests}
 use Rattle.cfs_inode.proofs.Serving.{still-makes}

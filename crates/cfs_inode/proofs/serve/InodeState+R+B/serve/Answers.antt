@@ -7,7 +7,9 @@ use Rattle.cfs_tracker.specs.Reads.{blocker_of}
 use Rattle.cfs_tracker.specs.View.{read_at, view_of}
 use Rattle.cfs_inode.specs.Makes.{CallMakes}
 use Rattle.cfs_inode.specs.Reads.{without_read}
-use Rattle.cfs_inode.specs.Serves.{ReadsStop, blocks_between, bytes_for, count_of, devices_for, home_devices, lender_for, lender_in, read_ask, read_of, stored_bytes, stored_from, waits_for}
+use Rattle.cfs_inode.specs.Serves.{ReadsStop, blocks_between, bytes_for, count_of, devices_for}
+use Rattle.cfs_inode.specs.Serves.{home_devices, lender_for, lender_in, read_ask, read_of}
+use Rattle.cfs_inode.specs.Serves.{stored_bytes, stored_from, waits_for}
 use Rattle.cfs_inode.specs.View.{StateView, held_of, state_view}
 use Rattle.cfs_inode.proofs.Copies.{full, some-same}
 use Rattle.cfs_inode.proofs.Resting.{rests}

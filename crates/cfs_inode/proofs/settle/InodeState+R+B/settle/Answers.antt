@@ -9,7 +9,8 @@ use Rattle.cfs_inode.specs.Makes.{CallMakes}
 use Rattle.cfs_inode.proofs.Closings.{closes-err, closes-ok}
 use Rattle.cfs_inode.proofs.Resting.{rests}
 use Rattle.cfs_inode.proofs.Settlings.{settle-done, settle-failed}
-use Rattle.cfs_inode.proofs.States.{some-taken, state-doubt, state-same, state-settled, state-unsettled, taken-out, view-settling}
+use Rattle.cfs_inode.proofs.States.{some-taken, state-doubt, state-same, state-settled}
+use Rattle.cfs_inode.proofs.States.{state-unsettled, taken-out, view-settling}
 use Rattle.cfs_inode.proofs.settle.InodeState+R+B.settle.Goals as goal
 
 pub returns-in_default-clause-settles : goal.returns-in_default-clause-settles

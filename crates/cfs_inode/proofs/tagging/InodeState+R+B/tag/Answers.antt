@@ -1,4 +1,5 @@
-use Rattle.std.proofs.Common.{rules, ◌≡◌, ◌<◌, ap, arith, [], ◌∷◌, length, None, Some, true, false, refl, subst, sym}
+use Rattle.std.proofs.Common.{rules, ◌≡◌, ◌<◌, ap, arith, [], ◌∷◌, length, None, Some, true, false}
+use Rattle.std.proofs.Common.{refl, subst, sym}
 use Rattle.cfs_core.specs.declared.event.Event.TheVariants as events
 use Rattle.cfs_tracker.specs.Cells.{cell_at, is_bare, moving}
 use Rattle.cfs_tracker.specs.View.{TrackerView, view_of}
@@ -7,7 +8,8 @@ use Rattle.cfs_inode.specs.Makes.{CallMakes}
 use Rattle.cfs_inode.specs.Tagging.{IsTaken, stock_of}
 use Rattle.cfs_inode.specs.View.{StateView, state_view}
 use Rattle.cfs_inode.proofs.Taggings.{tag-again, tag-fresh}
-use Rattle.cfs_inode.proofs.TagTells.{again-bare, fresh-bare, none-bare, state-mapped, state-tagged, stock-popped}
+use Rattle.cfs_inode.proofs.TagTells.{again-bare, fresh-bare, none-bare, state-mapped, state-tagged}
+use Rattle.cfs_inode.proofs.TagTells.{stock-popped}
 use Rattle.cfs_inode.proofs.TrimTells.{state-block}
 use Rattle.cfs_inode.proofs.tagging.InodeState+R+B.tag.Goals as goal
 
@@ -55,7 +57,8 @@ returns-in-Some-clause-tags g c =
       new_is = state-tagged g.R.Region.seen seen c.args.self.now c.tag_home.new.self
           (view_of c.take_block.new.self) c.args.block
           (moving (cell_at (view_of c.args.self.now.tracker).cells c.args.block))
-          c.tag_home.ensures.tags.now c.tag_home.result c.tag_home.ensures.tags.ino c.tag_home.ensures.tags.size
+          c.tag_home.ensures.tags.now c.tag_home.result c.tag_home.ensures.tags.ino
+          c.tag_home.ensures.tags.size
           c.tag_home.ensures.tags.tracker c.take_block.ensures.view;
     }
 

@@ -1,4 +1,5 @@
-use Rattle.std.proofs.Common.{◌≡◌, ◌∙◌, arith, ℕ, [], ◌∷◌, Option, None, Some, true, false, refl, subst, sym}
+use Rattle.std.proofs.Common.{◌≡◌, ◌∙◌, arith, ℕ, [], ◌∷◌, Option, None, Some, true, false, refl}
+use Rattle.std.proofs.Common.{subst, sym}
 use Rattle.cfs_core.specs.declared.event.Event.TheVariants as events
 use Rattle.cfs_block.specs.BlockOps.{SetsTag}
 use Rattle.cfs_tracker.specs.Cells.{cell_at, moving}
@@ -10,7 +11,8 @@ use Rattle.cfs_inode.specs.Marking.{answer_for}
 use Rattle.cfs_inode.specs.Trims.{failed, freed, nothing, trim_events}
 use Rattle.cfs_inode.specs.View.{StateView, state_view}
 use Rattle.cfs_inode.proofs.Resting.{rests}
-use Rattle.cfs_inode.proofs.Trimmings.{moving-here, past-low, tags-err, tags-ok, trim-held, trim-made, untagged-sure}
+use Rattle.cfs_inode.proofs.Trimmings.{moving-here, past-low, tags-err, tags-ok, trim-held}
+use Rattle.cfs_inode.proofs.Trimmings.{trim-made, untagged-sure}
 use Rattle.cfs_inode.proofs.TrimTells.{state-block, state-cell, state-past, state-trim}
 use Rattle.cfs_inode.proofs.trim.InodeState+R+B.trim.Goals as goal
 
@@ -25,7 +27,8 @@ returns-in_default-clause-makes g c =
     let old = state_view g.R.Region.seen g.B.Block.seen c.args.self.now in
     let asked = g.P.Power.asked c.args.power.now in
     subst (λ (o : Option ℕ). CallMakes (trim_events o nothing) asked old asked old)
-    (sym (state-trim g.R.Region.seen g.B.Block.seen c.args.self.now None c.in_default.ensures.block))
+    (sym (state-trim g.R.Region.seen g.B.Block.seen c.args.self.now None
+    c.in_default.ensures.block))
     (rests old asked)
 
 pub take_block-requires : goal.take_block-requires

@@ -8,7 +8,9 @@ use Rattle.cfs_job.specs.Jobs.{job_view}
 use Rattle.cfs_job.specs.Steps.{steps_left}
 use Rattle.cfs_job.specs.Tiles.{tile_in}
 use Rattle.cfs_job.proofs.CauseLemmas.{blocks_alone, nothing_called, with_before, with_behind}
-use Rattle.cfs_job.proofs.JobLemmas.{spans_by_first, spans_by_second, touched_by_first, touched_by_second, turn_flush_first, turn_flush_second, turn_nothing, turn_write_first, turn_write_second}
+use Rattle.cfs_job.proofs.JobLemmas.{spans_by_first, spans_by_second, touched_by_first}
+use Rattle.cfs_job.proofs.JobLemmas.{touched_by_second, turn_flush_first, turn_flush_second}
+use Rattle.cfs_job.proofs.JobLemmas.{turn_nothing, turn_write_first, turn_write_second}
 use Rattle.cfs_job.proofs.MadeLemmas.{Made, full_in}
 use Rattle.cfs_job.proofs.MadeLemmas as made
 use Rattle.cfs_job.proofs.SpanLemmas.{span_prop}

@@ -17,7 +17,8 @@ returns-in_err-relocate-clause-named c =
     let p = err_from_is_err_and r.result r.ensures.1 in
     let moves : List Check = move_checks c.args.at c.args.self.now.nodes.items c.args.words.now in
     let tree : Namespace = changed (tree_of c.args.self.now) (change_of c.args.words.now) in
-    let after : List Check = tree_checks (placed_by c.args.at c.args.words.now (places_of c.args.self.now)) tree.nodes in
+    let after : List Check =
+    tree_checks (placed_by c.args.at c.args.words.now (places_of c.args.self.now)) tree.nodes in
     refused_with r.result (moves ++ after) p.0 c.in_err-relocate.field-0.0 p.1 p.2
     (refused_before moves after c.in_err-relocate.field-0.0 c.in_err-relocate.ensures.named)
 
@@ -27,19 +28,25 @@ returns-in_err-check-clause-named c =
     let p = err_from_is_err_and r.result r.ensures.1 in
     let moves : List Check = move_checks c.args.at c.args.self.now.nodes.items c.args.words.now in
     let tree : Namespace = changed (tree_of c.args.self.now) (change_of c.args.words.now) in
-    let after : List Check = tree_checks (placed_by c.args.at c.args.words.now (places_of c.args.self.now)) tree.nodes in
+    let after : List Check =
+    tree_checks (placed_by c.args.at c.args.words.now (places_of c.args.self.now)) tree.nodes in
     refused_with r.result (moves ++ after) p.0 (Damaged c.in_err-check.field-0.0) p.1 p.2
     (behind_sound moves after c.in_ok-relocate.ensures.sound
-    ∙ ap (λ (places : List ℕ). damage_of (tree_checks places tree.nodes)) (sym c.in_ok-relocate.ensures.places)
-    ∙ ap (λ (t : Namespace). damage_of (tree_checks (places_of c.relocate.new.self) t.nodes)) (sym c.in_ok-relocate.ensures.tree)
+    ∙ ap (λ (places : List ℕ). damage_of (tree_checks places tree.nodes))
+    (sym c.in_ok-relocate.ensures.places)
+    ∙ ap (λ (t : Namespace). damage_of (tree_checks (places_of c.relocate.new.self) t.nodes))
+    (sym c.in_ok-relocate.ensures.tree)
     ∙ sym c.in_err-check.ensures)
 
 pub returns-clause-sound : goal.returns-clause-sound
 returns-clause-sound c =
     let moves : List Check = move_checks c.args.at c.args.self.now.nodes.items c.args.words.now in
     let tree : Namespace = changed (tree_of c.args.self.now) (change_of c.args.words.now) in
-    let after : List Check = tree_checks (placed_by c.args.at c.args.words.now (places_of c.args.self.now)) tree.nodes in
+    let after : List Check =
+    tree_checks (placed_by c.args.at c.args.words.now (places_of c.args.self.now)) tree.nodes in
     behind_sound moves after c.in_ok-relocate.ensures.sound
-    ∙ ap (λ (places : List ℕ). damage_of (tree_checks places tree.nodes)) (sym c.in_ok-relocate.ensures.places)
-    ∙ ap (λ (t : Namespace). damage_of (tree_checks (places_of c.relocate.new.self) t.nodes)) (sym c.in_ok-relocate.ensures.tree)
+    ∙ ap (λ (places : List ℕ). damage_of (tree_checks places tree.nodes))
+    (sym c.in_ok-relocate.ensures.places)
+    ∙ ap (λ (t : Namespace). damage_of (tree_checks (places_of c.relocate.new.self) t.nodes))
+    (sym c.in_ok-relocate.ensures.tree)
     ∙ sym c.in_ok-check.ensures

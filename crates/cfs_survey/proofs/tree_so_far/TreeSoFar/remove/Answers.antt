@@ -5,5 +5,7 @@ use Rattle.cfs_survey.proofs.tree_so_far.TreeSoFar.remove.Goals as goal
 
 pub returns-clause-tree : goal.returns-clause-tree
 returns-clause-tree c =
-    removed_tree (tree_of c.args.self.now) c.args.words.now c.drop_node.new.nodes.items c.in_ok-held.held.rec c.requires.operation
-    (found_rec c.deref.result.now (number_of c.args.words.now) c.in_ok-held.held c.in_ok-held.ensures.node) c.drop_node.ensures
+    removed_tree (tree_of c.args.self.now) c.args.words.now c.drop_node.new.nodes.items
+    c.in_ok-held.held.rec c.requires.operation
+    (found_rec c.deref.result.now (number_of c.args.words.now) c.in_ok-held.held
+    c.in_ok-held.ensures.node) c.drop_node.ensures

@@ -6,5 +6,10 @@ use Rattle.cfs_tracker.proofs.tracker.Tracker.applied.Goals as goal
 
 pub returns-clause-follows : goal.returns-clause-follows
 returns-clause-follows g c = λ core follows through.
-    let ends = follows-applied (view_of c.args.self.now) core c.args.place c.args.slots c.args.first c.args.second c.requires.out c.requires.last follows through in
-    (ends.0, same-view (rw (c.wait_again.ensures.items, c.bring_both.ensures.items, c.size_after-self.ensures) refl) ends.1)
+    let ends = follows-applied (view_of c.args.self.now) core c.args.place c.args.slots
+    c.args.first c.args.second c.requires.out c.requires.last follows through in (
+      ends.0,
+      same-view
+          (rw (c.wait_again.ensures.items, c.bring_both.ensures.items, c.size_after-self.ensures)
+          refl) ends.1,
+    )

@@ -15,6 +15,7 @@ loop-entry-preserved g c =
       items = items;
       found = c.loop-entry.invariant.found
           ∙ looks-on _ es at entry less same (sym c.is_next.ensures ∙ c.if-is_next.false);
-      passed = of-passed es c.loop-entry.passed c.pass.new.self at entry less same c.loop-entry.invariant.passed
+      passed = of-passed es c.loop-entry.passed c.pass.new.self at entry less same
+          c.loop-entry.invariant.passed
           c.pass.ensures.rises c.pass.ensures.last c.pass.ensures.stretches;
     }
