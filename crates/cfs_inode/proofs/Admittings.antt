@@ -21,6 +21,7 @@ use Rattle.std.specs.Prelude.{is_some, nat_le}
 use Rattle.cfs_core.specs.declared.event.Event.TheVariants as events
 use Rattle.cfs_pmem.specs.declared.trace.Asked.{Asked}
 use Rattle.std.proofs.lemmas.Bool.Decides.{nat_tests}
+use Rattle.std.specs.Option.{option_map}
 use Rattle.cfs_inode.specs.Admitting.{AdmissionMakes, AdmitEnd, HasEnough, ReadyMakes, SettledMakes}
 use Rattle.cfs_inode.specs.Admitting.{admitted, count_in, doubted, freed_by, is_here, need_blocks}
 use Rattle.cfs_inode.specs.Admitting.{offset_in, ready_events, refused, settled_events, too_big}
@@ -35,7 +36,7 @@ use Rattle.cfs_inode.specs.Mapping.{MapsBlocks, Tagged, TagsEach, tag_events}
 use Rattle.cfs_inode.specs.Opening.{AdmitMakes, IsNext, Opens}
 use Rattle.cfs_inode.specs.Placing.{Places}
 use Rattle.cfs_inode.specs.Tagging.{Blocks}
-use Rattle.cfs_inode.specs.View.{Seens, StateView, seens_of, state_view, told_doubt, told_option}
+use Rattle.cfs_inode.specs.View.{Seens, StateView, seens_of, state_view, told_doubt}
 use Rattle.cfs_inode.proofs.Coverings.{call-then}
 use Rattle.cfs_inode.proofs.MapTells.{state-bare}
 use Rattle.cfs_inode.proofs.Readies.{unmapped-told}
@@ -240,7 +241,7 @@ admission-few obeys tags keeps request grant staged asked stock old fits few =
 
 -- ---- what is told of a state, told back
 
-pub none-back : {X Y : Type 0} (tell : X → Y) (o : Option X) → told_option tell o ≡ None → o ≡ None
+pub none-back : {X Y : Type 0} (tell : X → Y) (o : Option X) → option_map tell o ≡ None → o ≡ None
 none-back tell None h = refl
 none-back tell (Some x) h = cc
 
@@ -275,7 +276,7 @@ mapped-may words bytes old new request tags keeps asked stock_old behind stock_n
     stock_old (state_view words bytes old) behind stock_new (state_view words bytes new)
     maps.each in
     let none : (state_view words bytes old).tracker.doubt ≡ None =
-    ap (λ d. told_option (told_doubt (seens_of words)) d) settled in
+    ap (λ d. option_map (told_doubt (seens_of words)) d) settled in
     let cells : first_unmapped (view_of new.tracker).cells (span request (view_of old.tracker).long)
     ≡ None =
     sym (unmapped-told bytes (view_of new.tracker).cells
@@ -346,7 +347,7 @@ nothing-settled words bytes old new here no_slots is =
     (record { ino = refl; count = refl; long = refl; cells = refl }))
     (none-back (told_doubt (seens_of words)) (view_of new.tracker).doubt
     (ap (λ (s : StateView). s.tracker.doubt) is
-    ∙ ap (λ d. told_option (told_doubt (seens_of words)) d) none))
+    ∙ ap (λ d. option_map (told_doubt (seens_of words)) d) none))
 
 -- ---- the tests
 

@@ -3,6 +3,7 @@ use Rattle.std.proofs.Common.{◌≡◌, ◌∙◌, ap, inl, inr, List, [], ◌�
 use Rattle.std.proofs.Common.{sym, ℕ}
 use Rattle.std.specs.List.{find}
 use Rattle.std.proofs.lemmas.Bool.{cases_Bool}
+use Rattle.std.specs.Option.{option_map}
 use Rattle.cfs_pmem.specs.Images.{Seen, WordStep}
 use Rattle.cfs_block.specs.BlockImages.{BlockStep}
 use Rattle.cfs_slot.specs.declared.doubt.Doubt.{Doubt}
@@ -17,7 +18,6 @@ use Rattle.cfs_tracker.specs.Reads.{is_live_doing, place_of}
 use Rattle.cfs_tracker.specs.View.{TrackerView, entry_at, view_of}
 use Rattle.cfs_inode.specs.declared.state.State.{State}
 use Rattle.cfs_inode.specs.View.{held_of, seens_of, state_view, told, told_doing, told_entry}
-use Rattle.cfs_inode.specs.View.{told_option}
 use Rattle.cfs_inode.proofs.Tells.{at-told}
 
 waits-told : {S T : Type 0} (tell : S → T) (now : Doing S) →
@@ -46,7 +46,7 @@ test-told tell reads later after e =
 find-told : {S T : Type 0} (tell : S → T) (reads : List Reading) (later : Pending S) (after : ℕ)
     (es : List (Pending S)) →
     find (is_next_mark reads (told_entry tell later) after) (map (told_entry tell) es)
-    ≡ told_option (told_entry tell) (find (is_next_mark reads later after) es)
+    ≡ option_map (told_entry tell) (find (is_next_mark reads later after) es)
 find-told tell reads later after [] = refl
 find-told {S} {T} tell reads later after (e ∷ es) =
     elim (cases_Bool (is_next_mark reads later after e)) [
@@ -59,13 +59,13 @@ find-told {S} {T} tell reads later after (e ∷ es) =
     ]
 
 place-told : {S T : Type 0} (tell : S → T) (entry : Option (Pending S)) →
-    place_of (told_option (told_entry tell) entry) ≡ place_of entry
+    place_of (option_map (told_entry tell) entry) ≡ place_of entry
 place-told tell None = refl
 place-told tell (Some entry) = refl
 
 by-told : {S D B T E C : Type 0} (live : S → T) (doubt : D → E) (block : B → C)
     (view : TrackerView S D B) (later : Option (Pending S)) (after : ℕ) →
-    next_mark_by (told live doubt block view) (told_option (told_entry live) later) after
+    next_mark_by (told live doubt block view) (option_map (told_entry live) later) after
     ≡ next_mark_by view later after
 by-told live doubt block view None after = refl
 by-told live doubt block view (Some later) after =

@@ -2,6 +2,7 @@
 use Rattle.std.proofs.Common.{◌≡◌, ◌∙◌, ◌||◌, ap, inl, inr, is_none, List, [], ◌∷◌, map, Option}
 use Rattle.std.proofs.Common.{None, Some, refl, subst, sym, true, false, ℕ, Bool}
 use Rattle.std.proofs.lemmas.Bool.{cases_Bool}
+use Rattle.std.specs.Option.{option_map}
 use Rattle.cfs_core.specs.Words.{sized}
 use Rattle.cfs_pmem.specs.Images.{Seen}
 use Rattle.cfs_block.specs.BlockImages.{BlockStep}
@@ -20,7 +21,7 @@ use Rattle.cfs_tracker.specs.Finish.{done_with, home, is_last, is_last_of, more,
 use Rattle.cfs_tracker.specs.Finish.{number_of, put_back, retired, size_after, size_unsure, span_in}
 use Rattle.cfs_tracker.specs.View.{TrackerView, doing, entry_at, is_at, with_entry, without}
 use Rattle.cfs_inode.specs.Backs.{tile_back, tile_from}
-use Rattle.cfs_inode.specs.View.{Held, told, told_cell, told_doing, told_entry, told_option}
+use Rattle.cfs_inode.specs.View.{Held, told, told_cell, told_doing, told_entry}
 use Rattle.cfs_inode.proofs.JobTells.{next-told, set-told}
 use Rattle.cfs_inode.proofs.Tells.{at-told, with-told, without-told}
 
@@ -65,7 +66,7 @@ in-told live (doings.Covered slots) = refl
 in-told live doings.Closing = refl
 
 blocks-of-told : {S T : Type 0} (live : S → T) (entry : Option (Pending S)) →
-    blocks_out (told_option (told_entry live) entry) ≡ blocks_out entry
+    blocks_out (option_map (told_entry live) entry) ≡ blocks_out entry
 blocks-of-told live None = refl
 blocks-of-told live (Some entry) = in-told live entry.doing
 
@@ -88,7 +89,7 @@ done-told live last doings.Closing = refl
 
 last-of-told : {S T B C : Type 0} (live : S → T) (block : B → C) (cells : List (Cell B))
     (entry : Option (Pending S)) →
-    is_last_of (map (told_cell block) cells) (told_option (told_entry live) entry)
+    is_last_of (map (told_cell block) cells) (option_map (told_entry live) entry)
     ≡ is_last_of cells entry
 last-of-told live block cells None = refl
 last-of-told live block cells (Some entry) =
@@ -106,7 +107,7 @@ last-told live doubt block view place =
     ∙ last-of-told live block view.cells (entry_at view.entries place)
 
 pub span-told : {S T : Type 0} (live : S → T) (entry : Option (Pending S)) →
-    span_in (told_option (told_entry live) entry) ≡ span_in entry
+    span_in (option_map (told_entry live) entry) ≡ span_in entry
 span-told live None = refl
 span-told live (Some entry) = refl
 

@@ -4,6 +4,7 @@ use Rattle.std.proofs.Common.{Some, refl, subst, sym, true, false, ℕ}
 use Rattle.std.specs.Prelude.{is_some}
 use Rattle.std.specs.List.{range_with_len}
 use Rattle.std.proofs.lemmas.Bool.{cases_Bool}
+use Rattle.std.specs.Option.{option_map}
 use Rattle.cfs_file.specs.declared.sizes.TheConstants.{FILE_BLOCKS}
 use Rattle.cfs_file.specs.declared.span.Span.{Span}
 use Rattle.cfs_file.specs.Span.{meets}
@@ -39,7 +40,6 @@ use Rattle.cfs_inode.specs.declared.state.State.{State}
 use Rattle.cfs_inode.specs.Dispatching.{IsReadyAt, lent_of}
 use Rattle.cfs_inode.specs.Jobs.{AreTile, IsGiven, with_dispatched}
 use Rattle.cfs_inode.specs.View.{Held, StateView, held_of, seens_of, state_view, told_cell}
-use Rattle.cfs_inode.specs.View.{told_option}
 use Rattle.cfs_inode.proofs.EndTells.{span-told}
 use Rattle.cfs_inode.proofs.JobTells.{all-are-still, cell-told, slots-told, step-told}
 use Rattle.cfs_inode.proofs.JobTells.{told-dispatched}
@@ -201,7 +201,7 @@ handed {R} {B} {g} words bytes number state place first second slots span one tw
     let are = ready-blocks old.tracker place first second told_step
     (all-are-still old.tracker.cells first second ready.still) in
     let here : waiting_slots (entry_at old.tracker.entries place) ≡ Some held =
-    slots-told live view.entries place ∙ ap (λ o. told_option live o) waiting in
+    slots-told live view.entries place ∙ ap (λ o. option_map live o) waiting in
     let waits : waiting_in is.entry.doing ≡ Some held = ap waiting_slots (sym is.there) ∙ here in
     let open_ = ready.opened is.entry held is.there waits in
     let span_is : span ≡ is.entry.span =

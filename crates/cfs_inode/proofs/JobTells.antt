@@ -5,6 +5,7 @@ use Rattle.std.specs.List.{find, list_all, range_with_len}
 use Rattle.std.proofs.Math.ListN.{get_or-map}
 use Rattle.std.proofs.lemmas.Bool.{cases_Bool}
 use Rattle.std.proofs.lemmas.List.{length-map}
+use Rattle.std.specs.Option.{option_map}
 use Rattle.cfs_file.specs.declared.span.Span.{Span}
 use Rattle.cfs_tracker.specs.declared.cell.Cell.{Cell}
 use Rattle.cfs_tracker.specs.declared.cell.Cell.TheVariants as kinds
@@ -23,7 +24,7 @@ use Rattle.cfs_tracker.specs.Dispatch.{waiting_in, waiting_slots}
 use Rattle.cfs_tracker.specs.Reads.{is_live_doing, place_of}
 use Rattle.cfs_tracker.specs.View.{TrackerView, doing, entry_at, with_entry}
 use Rattle.cfs_tracker.proofs.Dispatching.{find-alike, still-held}
-use Rattle.cfs_inode.specs.View.{told, told_cell, told_doing, told_entry, told_option}
+use Rattle.cfs_inode.specs.View.{told, told_cell, told_doing, told_entry}
 use Rattle.cfs_inode.proofs.Tells.{at-told, with-told}
 
 -- ---- the blocks
@@ -168,7 +169,7 @@ behind-told live doubt block view entry None =
 
 of-told : {S D B T E C : Type 0} (live : S → T) (doubt : D → E) (block : B → C)
     (view : TrackerView S D B) (entry : Option (Pending S)) →
-    step_of (told live doubt block view) (told_option (told_entry live) entry)
+    step_of (told live doubt block view) (option_map (told_entry live) entry)
     ≡ step_of view entry
 of-told live doubt block view None = refl
 of-told live doubt block view (Some entry) =
@@ -186,7 +187,7 @@ step-told live doubt block view place =
 -- ---- it is dispatched
 
 waits-told : {S T : Type 0} (live : S → T) (now : Doing S) →
-    waiting_in (told_doing live now) ≡ told_option live (waiting_in now)
+    waiting_in (told_doing live now) ≡ option_map live (waiting_in now)
 waits-told live (doings.Waiting slots) = refl
 waits-told live doings.Marking = refl
 waits-told live (doings.Out first second) = refl
@@ -194,13 +195,13 @@ waits-told live (doings.Covered slots) = refl
 waits-told live doings.Closing = refl
 
 slots-of-told : {S T : Type 0} (live : S → T) (entry : Option (Pending S)) →
-    waiting_slots (told_option (told_entry live) entry) ≡ told_option live (waiting_slots entry)
+    waiting_slots (option_map (told_entry live) entry) ≡ option_map live (waiting_slots entry)
 slots-of-told live None = refl
 slots-of-told live (Some entry) = waits-told live entry.doing
 
 pub slots-told : {S T : Type 0} (live : S → T) (es : List (Pending S)) (place : ℕ) →
     waiting_slots (entry_at (map (told_entry live) es) place)
-    ≡ told_option live (waiting_slots (entry_at es place))
+    ≡ option_map live (waiting_slots (entry_at es place))
 slots-told live es place =
     ap waiting_slots (at-told live es place) ∙ slots-of-told live (entry_at es place)
 

@@ -2,7 +2,7 @@ pub mod Tells
 pub mod Goods
 pub mod Resting
 pub mod Replacing
-pub mod Closings
+pub mod Heads
 pub mod Skips
 pub mod Settlings
 pub mod Openings

@@ -1,6 +1,6 @@
 -- A waiting change is marked as a no-op.
 use Rattle.std.proofs.Common.{◌≡◌, ◌∙◌, ◌≤◌, ◌<◌, ◌+◌, ap, arith, inl, inr, List, [], ◌∷◌, length}
-use Rattle.std.proofs.Common.{Option, None, Some, Ok, Err, refl, subst, sym, true, false, ℕ, Bool}
+use Rattle.std.proofs.Common.{Option, None, Some, refl, subst, sym, true, false, ℕ, Bool}
 use Rattle.std.specs.Prelude.{option_map}
 use Rattle.cfs_core.specs.declared.event.Event.TheVariants as events
 use Rattle.cfs_core.specs.declared.flag.Flag.TheVariants.{Off}
@@ -31,43 +31,14 @@ use Rattle.cfs_tracker.proofs.Marking.{follows-marked, follows-marking}
 use Rattle.cfs_tracker.proofs.Putting.{track-of}
 use Rattle.cfs_tracker.proofs.Tracks.{in-log}
 use Rattle.cfs_inode.specs.Makes.{AnyBetween, CallMakes}
-use Rattle.cfs_inode.specs.Marking.{SetsMark, answer_for, may_be_marked, waiting_at, with_marked}
+use Rattle.cfs_inode.specs.Marking.{answer_for, may_be_marked, waiting_at, with_marked}
 use Rattle.cfs_inode.specs.Stands.{Stands, slots_in}
 use Rattle.cfs_inode.specs.View.{Held, Seens, StateView}
-use Rattle.cfs_inode.proofs.Closings.{sets-err, sets-ok}
 use Rattle.cfs_inode.proofs.Goods.{good}
 use Rattle.cfs_inode.proofs.Replacing.{replaced}
 use Rattle.cfs_inode.proofs.Settlings.{none-here}
 use Rattle.cfs_inode.proofs.Skips.{doubt-stays}
 use Rattle.cfs_inode.proofs.Tells.{with-with}
-
--- ---- its slots
-
-pub marks-ok : {T E : Type 0} {obeys : Bool} (head now : Seen WordStep) (tails : Seens) (t : T)
-    {asked_old asked_new : List Asked} →
-    SetsWord {T = T} {E = E} obeys 1 1 (Ok t) asked_old head asked_new now →
-    SetsMark obeys (Ok tt) asked_old (head ∷ tails) asked_new (now ∷ tails)
-marks-ok head now tails t sets = record {
-  head = head;
-  now = now;
-  tails = tails;
-  old_is = refl;
-  new_is = refl;
-  sets = sets-ok t sets;
-}
-
-pub marks-err : {T E : Type 0} {obeys : Bool} (head now : Seen WordStep) (tails : Seens) (e : E)
-    {asked_old asked_new : List Asked} →
-    SetsWord {T = T} {E = E} obeys 1 1 (Err e) asked_old head asked_new now →
-    SetsMark obeys (Err tt) asked_old (head ∷ tails) asked_new (now ∷ tails)
-marks-err head now tails e sets = record {
-  head = head;
-  now = now;
-  tails = tails;
-  old_is = refl;
-  new_is = refl;
-  sets = sets-err e sets;
-}
 
 -- ---- what is known of a change that waits
 

@@ -37,8 +37,9 @@ use Rattle.cfs_tracker.specs.Follows.{DoubtStands}
 use Rattle.cfs_tracker.specs.View.{entry_at, is_at}
 use Rattle.cfs_tracker.proofs.Admissions.{follows-admitted, follows-doubted}
 use Rattle.cfs_tracker.proofs.Pushing.{none-past, track-beside, tracks-count}
+use Rattle.cfs_inode.specs.Heads.{OpensGate}
 use Rattle.cfs_inode.specs.Makes.{AnyBetween}
-use Rattle.cfs_inode.specs.Opening.{AdmitMakes, IsNext, OpensGate, next_place, with_admitted, with_doubted}
+use Rattle.cfs_inode.specs.Opening.{AdmitMakes, IsNext, next_place, with_admitted, with_doubted}
 use Rattle.cfs_inode.specs.Stands.{Stands, Together, slots_in}
 use Rattle.cfs_inode.specs.View.{Held, Seens, StateView}
 use Rattle.cfs_inode.proofs.Goods.{good}

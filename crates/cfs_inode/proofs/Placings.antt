@@ -1,6 +1,6 @@
 -- The offset of a staged append.
-use Rattle.std.proofs.Common.{◌≡◌, ◌∙◌, ◌≤◌, ◌+◌, ap, arith, List, [], ◌∷◌, length, Ok, Err, refl}
-use Rattle.std.proofs.Common.{sym, true, ℕ, Bool, get_or-set_other}
+use Rattle.std.proofs.Common.{◌≡◌, ◌∙◌, ◌≤◌, ◌+◌, ap, arith, List, [], length, refl}
+use Rattle.std.proofs.Common.{sym, true, ℕ, get_or-set_other}
 use Rattle.std.specs.Prelude.{nat_le, nat_lt}
 use Rattle.std.proofs.lemmas.Bool.Decides.{nat_tests}
 use Rattle.cfs_file.specs.declared.request.Request.{Request}
@@ -16,11 +16,7 @@ use Rattle.cfs_core.proofs.Legal.{both}
 use Rattle.cfs_pmem.specs.Images as images
 use Rattle.cfs_pmem.specs.Images.{Seen, WordStep, kept, words_of}
 use Rattle.cfs_slot.specs.Words.{grant_of, ino_of, with_offset}
-use Rattle.cfs_pmem.specs.declared.trace.Asked.{Asked}
-use Rattle.cfs_pmem.specs.WordOps.{SetsWord}
-use Rattle.cfs_inode.specs.Placing.{IsOfSame, IsPlaced, IsStagedFor, IsSureFor, SetsHead}
-use Rattle.cfs_inode.specs.View.{Seens}
-use Rattle.cfs_inode.proofs.Closings.{sets-err, sets-ok}
+use Rattle.cfs_inode.specs.Placing.{IsOfSame, IsPlaced, IsStagedFor, IsSureFor}
 
 pub placed-append : (bytes : List ℕ) (long offset : ℕ) (was now : Request) →
     is_change (requests.Append bytes) ≡ true → was ≡ requests.Write offset bytes →
@@ -46,32 +42,6 @@ same-owner offset old new is = record {
   grant =
       ap (λ (s : Seen WordStep). grant_of (words_of s)) is
       ∙ get_or-set_other (words_of old) 3 5 offset 0 (λ same. omega (arith, same));
-}
-
-pub heads-ok : {T E : Type 0} {obeys : Bool} (head now : Seen WordStep) (tails news : Seens)
-    (offset : ℕ) (t : T) {asked_old asked_new : List Asked} → news ≡ tails →
-    SetsWord {T = T} {E = E} obeys 3 offset (Ok t) asked_old head asked_new now →
-    SetsHead obeys offset (Ok tt) asked_old (head ∷ tails) asked_new (now ∷ news)
-heads-ok head now tails news offset t is sets = record {
-  head = head;
-  now = now;
-  tails = tails;
-  old_is = refl;
-  new_is = ap (λ ts. now ∷ ts) is;
-  sets = sets-ok t sets;
-}
-
-pub heads-err : {T E : Type 0} {obeys : Bool} (head now : Seen WordStep) (tails news : Seens)
-    (offset : ℕ) (e : E) {asked_old asked_new : List Asked} → news ≡ tails →
-    SetsWord {T = T} {E = E} obeys 3 offset (Err e) asked_old head asked_new now →
-    SetsHead obeys offset (Err tt) asked_old (head ∷ tails) asked_new (now ∷ news)
-heads-err head now tails news offset e is sets = record {
-  head = head;
-  now = now;
-  tails = tails;
-  old_is = refl;
-  new_is = ap (λ ts. now ∷ ts) is;
-  sets = sets-err e sets;
 }
 
 abbrev pub bytes_in : Request → List ℕ

@@ -2,6 +2,7 @@
 use Rattle.std.proofs.Common.{◌≡◌, ◌∙◌, ap, arith, cond, List, [], ◌∷◌, length, map, not, Some, refl, false, ℕ}
 use Rattle.std.specs.List.{find}
 use Rattle.std.proofs.Math.ListN.{get_or-map}
+use Rattle.std.specs.Option.{option_map}
 use Rattle.cfs_file.specs.declared.request.Request.{Request}
 use Rattle.cfs_file.specs.Span.{span}
 use Rattle.cfs_core.specs.Medium.{placed}
@@ -18,7 +19,7 @@ use Rattle.cfs_tracker.specs.declared.cell.Cell.TheVariants as kinds
 use Rattle.cfs_tracker.specs.Admit.{MayAdmit, is_mapped}
 use Rattle.cfs_tracker.specs.Cells.{cell_at}
 use Rattle.cfs_tracker.specs.View.{TrackerView}
-use Rattle.cfs_inode.specs.View.{Seens, StateView, told, told_cell, told_doubt, told_option}
+use Rattle.cfs_inode.specs.View.{Seens, StateView, told, told_cell, told_doubt}
 use Rattle.cfs_inode.proofs.Openings.{IsReady}
 
 shut-all : (head : Seen WordStep) (tails : Seens) → AllImages head IsClosed →
@@ -81,7 +82,7 @@ pub told-may : {S D B T E C : Type 0} (live : S → T) (doubt : D → E) (block 
     (view : TrackerView S D B) (request : Request) → MayAdmit view request →
     MayAdmit (told live doubt block view) request
 told-may live doubt block view request admits = record {
-  settled = ap (λ d. told_option (told_doubt doubt) d) admits.settled;
+  settled = ap (λ d. option_map (told_doubt doubt) d) admits.settled;
   change = admits.change;
   fits = admits.fits;
   mapped = unmapped-told block view.cells (blocks_needed (span request view.long))

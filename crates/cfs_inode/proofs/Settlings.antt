@@ -23,7 +23,8 @@ use Rattle.cfs_tracker.specs.Settle.{doubt_slots, settled, unsettled, with_slots
 use Rattle.cfs_tracker.specs.View.{TrackerView, entry_at}
 use Rattle.cfs_tracker.proofs.Putting.{track-of}
 use Rattle.cfs_tracker.proofs.Settles.{follows-settled}
-use Rattle.cfs_inode.specs.Ends.{Closes, slots_in_doubt, with_doubt, without_doubt}
+use Rattle.cfs_inode.specs.Heads.{Closes}
+use Rattle.cfs_inode.specs.Ends.{slots_in_doubt, with_doubt, without_doubt}
 use Rattle.cfs_inode.specs.Makes.{AnyBetween, CallMakes}
 use Rattle.cfs_inode.specs.Stands.{Stands}
 use Rattle.cfs_inode.specs.View.{Held, Seens, StateView}

@@ -29,7 +29,8 @@ use Rattle.cfs_tracker.proofs.Entries.{at-with, at-without, here-with, here-with
 use Rattle.cfs_tracker.proofs.Putting.{follows-redo, redo-alike, track-of}
 use Rattle.cfs_tracker.proofs.Skips.{follows-closing, follows-skipped}
 use Rattle.cfs_tracker.proofs.Tracks.{in-log}
-use Rattle.cfs_inode.specs.Ends.{Closes, noop_at, with_noop, without_noop}
+use Rattle.cfs_inode.specs.Heads.{Closes}
+use Rattle.cfs_inode.specs.Ends.{noop_at, with_noop, without_noop}
 use Rattle.cfs_inode.specs.Makes.{AnyBetween, CallMakes}
 use Rattle.cfs_inode.specs.Stands.{Stands, slots_in}
 use Rattle.cfs_inode.specs.View.{Held, Seens, StateView}

@@ -2,6 +2,7 @@
 use Rattle.std.proofs.Common.{◌≡◌, ◌∙◌, ap, [], ◌∷◌, Option, None, Some, refl, sym, true, ℕ}
 use Rattle.std.specs.Prelude.{is_some}
 use Rattle.std.proofs.lemmas.List.{map-append}
+use Rattle.std.specs.Option.{option_map}
 use Rattle.cfs_file.specs.declared.request.Request.{Request}
 use Rattle.cfs_pmem.specs.Images.{Seen, WordStep}
 use Rattle.cfs_block.specs.BlockImages.{BlockStep}
@@ -18,7 +19,7 @@ use Rattle.cfs_inode.specs.declared.state.State.{State}
 use Rattle.cfs_inode.specs.Ends.{noop_at, slots_in_doubt, with_doubt, with_noop, without_doubt, without_noop}
 use Rattle.cfs_inode.specs.Opening.{with_admitted, with_doubted}
 use Rattle.cfs_inode.specs.Reads.{with_read, without_read}
-use Rattle.cfs_inode.specs.View.{held_of, seens_of, state_view, told, told_doubt, told_entry, told_option}
+use Rattle.cfs_inode.specs.View.{held_of, seens_of, state_view, told, told_doubt, told_entry}
 use Rattle.cfs_inode.proofs.Tells.{covered-told, told-skipped, told-unclosed}
 
 -- the state with another tracker, seen by what that tracker is seen as
@@ -46,10 +47,10 @@ state-same words bytes state now is =
 pub state-noop : {R B : Type 0} {g : _} (words : R → Seen WordStep) (bytes : B → Seen BlockStep)
     (state : State R B (Live R g) (Doubt R g)) (place : ℕ) (slots : Option (Live R g)) →
     slots ≡ covered_slots (entry_at (view_of state.tracker).entries place) →
-    noop_at (state_view words bytes state) place ≡ told_option (held_of words) slots
+    noop_at (state_view words bytes state) place ≡ option_map (held_of words) slots
 state-noop words bytes state place slots is =
     covered-told (held_of words) (view_of state.tracker).entries place
-    ∙ ap (λ o. told_option (held_of words) o) (sym is)
+    ∙ ap (λ o. option_map (held_of words) o) (sym is)
 
 pub state-skipped : {R B : Type 0} {g : _} (words : R → Seen WordStep) (bytes : B → Seen BlockStep)
     (state : State R B (Live R g) (Doubt R g)) (now : Tracker (Live R g) (Doubt R g) B)
@@ -80,17 +81,17 @@ state-unclosed words bytes state now mid place live is was =
 -- ---- the request in doubt
 
 pub doubt-told : {D E : Type 0} (tell : D → E) (doubt : Option (InDoubt D)) →
-    doubt_slots (told_option (told_doubt tell) doubt) ≡ told_option tell (doubt_slots doubt)
+    doubt_slots (option_map (told_doubt tell) doubt) ≡ option_map tell (doubt_slots doubt)
 doubt-told tell None = refl
 doubt-told tell (Some doubt) = refl
 
 pub state-doubt : {R B : Type 0} {g : _} (words : R → Seen WordStep) (bytes : B → Seen BlockStep)
     (state : State R B (Live R g) (Doubt R g)) (slots : Option (Doubt R g)) →
     slots ≡ doubt_slots (view_of state.tracker).doubt →
-    slots_in_doubt (state_view words bytes state) ≡ told_option (seens_of words) slots
+    slots_in_doubt (state_view words bytes state) ≡ option_map (seens_of words) slots
 state-doubt words bytes state slots is =
     doubt-told (seens_of words) (view_of state.tracker).doubt
-    ∙ ap (λ o. told_option (seens_of words) o) (sym is)
+    ∙ ap (λ o. option_map (seens_of words) o) (sym is)
 
 none-taken : {D : Type 0} (doubt : Option (InDoubt D)) → None ≡ doubt_slots doubt →
     with_slots None doubt ≡ doubt
@@ -115,8 +116,8 @@ pub view-settling : {S D B : Type 0} (view : TrackerView S D B) → None ≡ dou
 view-settling view h = ap (λ d. record view { doubt = d }) (none-taken view.doubt h)
 
 back-told : {D E : Type 0} (tell : D → E) (doubt : Option (InDoubt D)) (slots : D) →
-    told_option (told_doubt tell) (with_slots (Some slots) (with_slots None doubt))
-    ≡ with_slots (Some (tell slots)) (told_option (told_doubt tell) doubt)
+    option_map (told_doubt tell) (with_slots (Some slots) (with_slots None doubt))
+    ≡ with_slots (Some (tell slots)) (option_map (told_doubt tell) doubt)
 back-told tell None slots = refl
 back-told tell (Some doubt) slots = refl
 

@@ -1,17 +1,18 @@
 -- A tracker whose slots and blocks are told as something else.
 use Rattle.std.proofs.Common.{◌≡◌, ◌∙◌, ap, inl, inr, List, [], ◌∷◌, map, Option, None, Some, refl, ℕ}
 use Rattle.std.proofs.lemmas.Bool.{cases_Bool}
+use Rattle.std.specs.Option.{option_map}
 use Rattle.cfs_tracker.specs.declared.doing.Doing.{Doing}
 use Rattle.cfs_tracker.specs.declared.doing.Doing.TheVariants as doings
 use Rattle.cfs_tracker.specs.declared.pending.Pending.{Pending}
 use Rattle.cfs_tracker.specs.Skip.{closing, covered_in, covered_slots, skipped, unclosed}
 use Rattle.cfs_tracker.specs.View.{TrackerView, doing, entry_at, is_at, with_entry, without}
-use Rattle.cfs_inode.specs.View.{told, told_doing, told_entry, told_option}
+use Rattle.cfs_inode.specs.View.{told, told_doing, told_entry}
 
 -- ---- entries
 
 pub at-told : {S T : Type 0} (tell : S → T) (es : List (Pending S)) (place : ℕ) →
-    entry_at (map (told_entry tell) es) place ≡ told_option (told_entry tell) (entry_at es place)
+    entry_at (map (told_entry tell) es) place ≡ option_map (told_entry tell) (entry_at es place)
 at-told tell [] place = refl
 at-told tell (x ∷ xs) place = elim (cases_Bool (is_at place x)) [
   | inl own ↦ rw own refl
@@ -59,7 +60,7 @@ without-with (x ∷ xs) place one = elim (cases_Bool (is_at place x)) [
 -- ---- no-ops
 
 covered-in-told : {S T : Type 0} (tell : S → T) (now : Doing S) →
-    covered_in (told_doing tell now) ≡ told_option tell (covered_in now)
+    covered_in (told_doing tell now) ≡ option_map tell (covered_in now)
 covered-in-told tell (doings.Waiting slots) = refl
 covered-in-told tell doings.Marking = refl
 covered-in-told tell (doings.Out first second) = refl
@@ -67,13 +68,13 @@ covered-in-told tell (doings.Covered slots) = refl
 covered-in-told tell doings.Closing = refl
 
 covered-entry-told : {S T : Type 0} (tell : S → T) (entry : Option (Pending S)) →
-    covered_slots (told_option (told_entry tell) entry) ≡ told_option tell (covered_slots entry)
+    covered_slots (option_map (told_entry tell) entry) ≡ option_map tell (covered_slots entry)
 covered-entry-told tell None = refl
 covered-entry-told tell (Some entry) = covered-in-told tell entry.doing
 
 pub covered-told : {S T : Type 0} (tell : S → T) (es : List (Pending S)) (place : ℕ) →
     covered_slots (entry_at (map (told_entry tell) es) place)
-    ≡ told_option tell (covered_slots (entry_at es place))
+    ≡ option_map tell (covered_slots (entry_at es place))
 covered-told tell es place =
     ap covered_slots (at-told tell es place) ∙ covered-entry-told tell (entry_at es place)
 

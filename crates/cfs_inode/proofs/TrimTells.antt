@@ -4,6 +4,7 @@ use Rattle.std.proofs.Common.{Some, refl, sym, true, ℕ, Bool}
 use Rattle.std.specs.List.{find, list_any, range_with_len}
 use Rattle.std.proofs.Math.ListN.{get_or-map}
 use Rattle.std.proofs.lemmas.List.{length-map, map-set}
+use Rattle.std.specs.Option.{option_map}
 use Rattle.cfs_file.specs.declared.span.Span.{Span}
 use Rattle.cfs_pmem.specs.Images.{Seen, WordStep}
 use Rattle.cfs_block.specs.BlockImages.{BlockStep}
@@ -24,7 +25,7 @@ use Rattle.cfs_tracker.specs.View.{TrackerView, view_of}
 use Rattle.cfs_inode.specs.declared.state.State.{State}
 use Rattle.cfs_inode.specs.Trims.{block_at, with_block_cell}
 use Rattle.cfs_inode.specs.View.{held_of, seens_of, state_view, told, told_cell, told_doing}
-use Rattle.cfs_inode.specs.View.{told_doubt, told_entry, told_option}
+use Rattle.cfs_inode.specs.View.{told_doubt, told_entry}
 use Rattle.cfs_inode.proofs.Blocks.{set-set}
 use Rattle.cfs_inode.proofs.States.{state-told}
 
@@ -35,7 +36,7 @@ pub cell-told : {B C : Type 0} (tell : B → C) (cells : List (Cell B)) (block :
 cell-told tell cells block = get_or-map (told_cell tell) cells block kinds.Hole
 
 held-told : {B C : Type 0} (tell : B → C) (cell : Cell B) →
-    held_in (told_cell tell cell) ≡ told_option tell (held_in cell)
+    held_in (told_cell tell cell) ≡ option_map tell (held_in cell)
 held-told tell kinds.Hole = refl
 held-told tell (kinds.Home home) = refl
 held-told tell (kinds.Unsure home) = refl
@@ -53,11 +54,11 @@ is-held-told tell (kinds.Moving is_sure) = refl
 pub state-block : {R B : Type 0} {g : _} (words : R → Seen WordStep) (bytes : B → Seen BlockStep)
     (state : State R B (Live R g) (Doubt R g)) (block : ℕ) (home : Option B) →
     home ≡ held_in (cell_at (view_of state.tracker).cells block) →
-    block_at (state_view words bytes state) block ≡ told_option bytes home
+    block_at (state_view words bytes state) block ≡ option_map bytes home
 state-block words bytes state block home is =
     ap held_in (cell-told bytes (view_of state.tracker).cells block)
     ∙ (held-told bytes (cell_at (view_of state.tracker).cells block)
-    ∙ ap (λ o. told_option bytes o) (sym is))
+    ∙ ap (λ o. option_map bytes o) (sym is))
 
 -- ---- the next one to be given up
 
@@ -75,7 +76,7 @@ any-live-told tell span [] = refl
 any-live-told tell span (e ∷ es) = rw (live-told tell e.doing, any-live-told tell span es) refl
 
 doubt-in-told : {D E : Type 0} (tell : D → E) (span : Span) (doubt : Option (InDoubt D)) →
-    is_doubt_in span (told_option (told_doubt tell) doubt) ≡ is_doubt_in span doubt
+    is_doubt_in span (option_map (told_doubt tell) doubt) ≡ is_doubt_in span doubt
 doubt-in-told tell span None = refl
 doubt-in-told tell span (Some doubt) = refl
 

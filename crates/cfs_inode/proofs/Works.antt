@@ -23,13 +23,13 @@ use Rattle.cfs_tracker.specs.Listing.{is_listed, listed, listed_doubt, listing, 
 use Rattle.cfs_tracker.specs.Reads.{blocker_of, has_needed, is_before, is_live_doing, place_of}
 use Rattle.cfs_tracker.specs.View.{TrackerView}
 use Rattle.cfs_tracker.specs.Work.{is_noop_doing, is_to_do, next_work, work_of}
-use Rattle.cfs_inode.specs.View.{told, told_cell, told_doing, told_doubt, told_entry, told_option}
+use Rattle.cfs_inode.specs.View.{told, told_cell, told_doing, told_doubt, told_entry}
 
 -- ---- the first that passes a test
 
 pub find-told : {S T : Type 0} (tell : S → T) (test : Pending S → Bool) (now : Pending T → Bool) →
     ((e : Pending S) → now (told_entry tell e) ≡ test e) → (es : List (Pending S)) →
-    find now (map (told_entry tell) es) ≡ told_option (told_entry tell) (find test es)
+    find now (map (told_entry tell) es) ≡ option_map (told_entry tell) (find test es)
 find-told tell test now same [] = refl
 find-told tell test now same (e ∷ es) = elim (cases_Bool (test e)) [
   | inl own ↦
@@ -145,7 +145,7 @@ second-told tell cells span None = refl
 second-told tell cells span (Some first) = next-told tell cells span (Some first)
 
 place-told : {S T : Type 0} (tell : S → T) (entry : Option (Pending S)) →
-    place_of (told_option (told_entry tell) entry) ≡ place_of entry
+    place_of (option_map (told_entry tell) entry) ≡ place_of entry
 place-told tell None = refl
 place-told tell (Some entry) = refl
 
@@ -213,7 +213,7 @@ to-do-told live doubt block view entry =
 
 work-told : {S D B T E C : Type 0} (live : S → T) (doubt : D → E) (block : B → C)
     (view : TrackerView S D B) (entry : Option (Pending S)) →
-    option_map (work_of (told live doubt block view)) (told_option (told_entry live) entry)
+    option_map (work_of (told live doubt block view)) (option_map (told_entry live) entry)
     ≡ option_map (work_of view) entry
 work-told live doubt block view None = refl
 work-told live doubt block view (Some entry) =
@@ -233,12 +233,12 @@ next-work-told live doubt block view after =
 -- ---- what is listed
 
 doubt-listed : {D E : Type 0} (tell : D → E) (doubt : Option (InDoubt D)) (grant after : ℕ) →
-    listed_doubt (told_option (told_doubt tell) doubt) grant after ≡ listed_doubt doubt grant after
+    listed_doubt (option_map (told_doubt tell) doubt) grant after ≡ listed_doubt doubt grant after
 doubt-listed tell None grant after = refl
 doubt-listed tell (Some doubt) grant after = refl
 
 listed-told : {S T : Type 0} (tell : S → T) (entry : Option (Pending S)) (doubt : Option Listed) →
-    listed (told_option (told_entry tell) entry) doubt ≡ listed entry doubt
+    listed (option_map (told_entry tell) entry) doubt ≡ listed entry doubt
 listed-told tell None doubt = refl
 listed-told tell (Some entry) doubt =
     ap (λ s. Some (record { place = entry.place; state = s })) (state-told tell entry.doing)

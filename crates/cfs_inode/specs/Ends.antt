@@ -4,14 +4,13 @@ use Rattle.cfs_core.specs.declared.event.Event.{Event}
 use Rattle.cfs_core.specs.declared.event.Event.TheVariants as events
 use Rattle.cfs_pmem.specs.declared.trace.Asked.{Asked}
 use Rattle.cfs_pmem.specs.Images.{Seen, WordStep}
-use Rattle.cfs_pmem.specs.WordOps.{SetsWord}
 use Rattle.cfs_slot.specs.declared.slot.Slot.{Slot}
 use Rattle.cfs_slot.specs.Regions.{of_slots}
 use Rattle.cfs_vec.specs.declared.fixed_vec.FixedVec.{FixedVec}
-use Rattle.cfs_medium.specs.SlotEvents.{Answer}
 use Rattle.cfs_tracker.specs.Skip.{covered_slots, skipped, unclosed}
 use Rattle.cfs_tracker.specs.Settle.{doubt_slots, settled, unsettled}
 use Rattle.cfs_tracker.specs.View.{entry_at}
+use Rattle.cfs_inode.specs.Heads.{Closes}
 use Rattle.cfs_inode.specs.declared.answers.CloseAnswer.{CloseAnswer}
 use Rattle.cfs_inode.specs.declared.answers.CloseAnswer.TheVariants as answers
 use Rattle.cfs_inode.specs.View.{Held, Seens, StateView}
@@ -27,16 +26,6 @@ abbrev pub end_of : {R : Type 0} {g : _} {N : ℕ} → (R → Seen WordStep) →
 end_of seen (answers.Closed slots) = closed (map seen (of_slots slots))
 end_of seen answers.Nothing = nothing
 end_of seen answers.Failed = failed
-
--- a call closes the gate of a request's slots, or fails to
-pub record Closes (obeys : Bool) (result : Answer) (asked_old : List Asked) (old : Seens)
-    (asked_new : List Asked) (new : Seens) : Type 0 where
-  pub head : Seen WordStep
-  pub now : Seen WordStep
-  pub tails : Seens
-  pub old_is : old ≡ head ∷ tails
-  pub new_is : new ≡ now ∷ tails
-  pub sets : SetsWord obeys 0 0 result asked_old head asked_new now
 
 -- ---- skip
 

@@ -19,12 +19,12 @@ use Rattle.cfs_slot.specs.Regions.{of_slots}
 use Rattle.cfs_tracker.specs.Finish.{applied, as_far, is_last, more, retired, size_after}
 use Rattle.cfs_tracker.specs.Finish.{size_unsure}
 use Rattle.cfs_vec.specs.declared.fixed_vec.FixedVec.{FixedVec}
+use Rattle.cfs_inode.specs.Heads.{Closes}
 use Rattle.cfs_inode.specs.declared.finish_answer.FinishAnswer.{FinishAnswer}
 use Rattle.cfs_inode.specs.declared.finish_answer.FinishAnswer.TheVariants as answers
 use Rattle.cfs_inode.specs.declared.size_answer.SizeAnswer.{SizeAnswer}
 use Rattle.cfs_inode.specs.declared.size_answer.SizeAnswer.TheVariants as went
 use Rattle.cfs_inode.specs.Backs.{EndMakes, held_back, tile_back, with_put_back}
-use Rattle.cfs_inode.specs.Ends.{Closes}
 use Rattle.cfs_inode.specs.Makes.{Makes}
 use Rattle.cfs_inode.specs.Stands.{Together}
 use Rattle.cfs_inode.specs.View.{Seens, StateView}

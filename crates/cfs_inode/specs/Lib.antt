@@ -1,6 +1,7 @@
 pub mod View
 pub mod Stands
 pub mod Makes
+pub mod Heads
 pub mod Ends
 pub mod Opening
 pub mod Reads

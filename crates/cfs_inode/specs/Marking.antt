@@ -3,12 +3,11 @@ use Rattle.std.specs.Prelude.{ℕ, ◌≡◌, Bool, true, false, Option, Some, N
 use Rattle.cfs_core.specs.declared.event.Event.{Event}
 use Rattle.cfs_core.specs.declared.event.Event.TheVariants as events
 use Rattle.cfs_pmem.specs.declared.trace.Asked.{Asked}
-use Rattle.cfs_pmem.specs.Images.{Seen, WordStep}
-use Rattle.cfs_pmem.specs.WordOps.{SetsWord}
 use Rattle.cfs_medium.specs.SlotEvents.{Answer}
 use Rattle.cfs_tracker.specs.Dispatch.{waiting_slots}
 use Rattle.cfs_tracker.specs.Mark.{is_marking_by, marked, marking}
 use Rattle.cfs_tracker.specs.View.{entry_at}
+use Rattle.cfs_inode.specs.Heads.{SetsMark}
 use Rattle.cfs_inode.specs.declared.mark_answer.MarkAnswer.{MarkAnswer}
 use Rattle.cfs_inode.specs.declared.mark_answer.MarkAnswer.TheVariants as marks
 use Rattle.cfs_inode.specs.Makes.{CallMakes}
@@ -18,16 +17,6 @@ use Rattle.cfs_inode.specs.View.{Held, Seens, StateView}
 abbrev pub answer_for : Bool → Answer
 answer_for true = Ok tt
 answer_for false = Err tt
-
--- a call sets the mark of a request's slots, or fails to
-pub record SetsMark (obeys : Bool) (result : Answer) (asked_old : List Asked) (old : Seens)
-    (asked_new : List Asked) (new : Seens) : Type 0 where
-  pub head : Seen WordStep
-  pub now : Seen WordStep
-  pub tails : Seens
-  pub old_is : old ≡ head ∷ tails
-  pub new_is : new ≡ now ∷ tails
-  pub sets : SetsWord obeys 1 1 result asked_old head asked_new now
 
 -- the slots of the change that waits at a place
 abbrev pub waiting_at : StateView → ℕ → Option Held

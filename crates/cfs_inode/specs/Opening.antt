@@ -3,23 +3,11 @@ use Rattle.std.specs.Prelude.{ℕ, ◌+◌, ◌≡◌, Bool, true, false, Result
 use Rattle.cfs_file.specs.declared.entry.Entry.{Entry}
 use Rattle.cfs_file.specs.declared.request.Request.{Request}
 use Rattle.cfs_pmem.specs.declared.trace.Asked.{Asked}
-use Rattle.cfs_pmem.specs.Images.{Seen, WordStep}
-use Rattle.cfs_pmem.specs.WordOps.{SetsWord}
 use Rattle.cfs_core.specs.declared.event.Event.TheVariants as events
-use Rattle.cfs_medium.specs.SlotEvents.{Answer}
 use Rattle.cfs_tracker.specs.Admit.{admitted, doubted}
+use Rattle.cfs_inode.specs.Heads.{OpensGate}
 use Rattle.cfs_inode.specs.Makes.{CallMakes}
 use Rattle.cfs_inode.specs.View.{Held, Seens, StateView}
-
--- a call opens the gate of staged slots with this number, or fails to
-pub record OpensGate (obeys : Bool) (place : ℕ) (result : Answer) (asked_old : List Asked)
-    (old : Seens) (asked_new : List Asked) (new : Seens) : Type 0 where
-  pub head : Seen WordStep
-  pub now : Seen WordStep
-  pub tails : Seens
-  pub old_is : old ≡ head ∷ tails
-  pub new_is : new ≡ now ∷ tails
-  pub sets : SetsWord obeys 0 place result asked_old head asked_new now
 
 -- the next place
 abbrev pub next_place : StateView → ℕ

@@ -6,11 +6,10 @@ use Rattle.cfs_pmem.specs.declared.trace.Asked.{Asked}
 use Rattle.cfs_file.specs.Span.{span}
 use Rattle.cfs_core.specs.Medium.{placed}
 use Rattle.cfs_pmem.specs.Images.{IsSure, Seen, WordStep, words_of}
-use Rattle.cfs_pmem.specs.WordOps.{SetsWord}
 use Rattle.cfs_slot.specs.declared.staged.Staged.{Staged}
 use Rattle.cfs_slot.specs.Regions.{of_staged, tails_of_staged}
 use Rattle.cfs_slot.specs.Words.{grant_of, ino_of}
-use Rattle.cfs_medium.specs.SlotEvents.{Answer}
+use Rattle.cfs_inode.specs.Heads.{SetsOffset}
 use Rattle.cfs_inode.specs.Marking.{answer_for}
 use Rattle.cfs_inode.specs.View.{Seens}
 
@@ -28,20 +27,10 @@ abbrev pub IsSureFor : Request → Seen WordStep → Type 0
 IsSureFor (requests.Append bytes) head = Unit {0}
 IsSureFor request head = IsSure head
 
--- a call sets the offset of staged slots, or fails to
-pub record SetsHead (obeys : Bool) (offset : ℕ) (result : Answer) (asked_old : List Asked)
-    (old : Seens) (asked_new : List Asked) (new : Seens) : Type 0 where
-  pub head : Seen WordStep
-  pub now : Seen WordStep
-  pub tails : Seens
-  pub old_is : old ≡ head ∷ tails
-  pub new_is : new ≡ now ∷ tails
-  pub sets : SetsWord obeys 3 offset result asked_old head asked_new now
-
 -- That of an append becomes the length of the file, all else is as it was.
 abbrev pub Places : Bool → Request → ℕ → Bool → List Asked → Seens → List Asked → Seens → Type 0
 Places obeys (requests.Append bytes) long placed asked_old old asked_new new =
-    SetsHead obeys long (answer_for placed) asked_old old asked_new new
+    SetsOffset obeys long (answer_for placed) asked_old old asked_new new
 Places obeys request long placed asked_old old asked_new new =
     (placed ≡ true) × ((asked_new ≡ asked_old) × (new ≡ old))
 

@@ -1,5 +1,6 @@
 -- The state of an inode as plain data.
-use Rattle.std.specs.Prelude.{ℕ, Option, Some, None, List, ◌∷◌, map}
+use Rattle.std.specs.Prelude.{ℕ, List, ◌∷◌, map}
+use Rattle.std.specs.Option.{option_map}
 use Rattle.cfs_pmem.specs.Images.{Seen, WordStep}
 use Rattle.cfs_block.specs.BlockImages.{BlockStep}
 use Rattle.cfs_slot.specs.declared.doubt.Doubt.{Doubt}
@@ -50,16 +51,12 @@ told_entry tell entry = record {
   doing = told_doing tell entry.doing;
 }
 
-abbrev pub told_option : {S T : Type 0} → (S → T) → Option S → Option T
-told_option tell None = None
-told_option tell (Some x) = Some (tell x)
-
 abbrev pub told_doubt : {S T : Type 0} → (S → T) → InDoubt S → InDoubt T
 told_doubt tell doubt = record {
   place = doubt.place;
   grant = doubt.grant;
   span = doubt.span;
-  slots = told_option tell doubt.slots;
+  slots = option_map tell doubt.slots;
 }
 
 abbrev pub told_cell : {S T : Type 0} → (S → T) → Cell S → Cell T
@@ -79,7 +76,7 @@ told live doubt block view = record {
   entries = map (told_entry live) view.entries;
   reads = view.reads;
   cells = map (told_cell block) view.cells;
-  doubt = told_option (told_doubt doubt) view.doubt;
+  doubt = option_map (told_doubt doubt) view.doubt;
 }
 
 -- ---- the view

@@ -72,7 +72,7 @@ impl<R: Region + Drop, B: Block + Drop> InodeState<R, B> {
             (P.asked power.old) (state_view R.seen B.seen self.old)
             (P.asked power.new) (state_view R.seen B.seen self.new) }
     {
-        let offset = offset_in(request, self.tracker.long());
+        let offset = offset_in(request, self.tracker.length());
         let count = count_in(request);
         match self.open(power, request, staged) {
             Ok(place) => AdmitAnswer::Admitted {
@@ -162,7 +162,7 @@ impl<R: Region + Drop, B: Block + Drop> InodeState<R, B> {
         *settled = CloseAnswer::Nothing;
         if !self.tracker.fits(request) {
             return AdmitAnswer::TooBig {
-                length: self.tracker.long(),
+                length: self.tracker.length(),
                 staged,
             };
         }

@@ -1,8 +1,9 @@
 //! A state is taken apart.
 
 ghost use Rattle.std.specs.Prelude.{◌≡◌, map};
+ghost use Rattle.std.specs.Option.{option_map};
 ghost use Rattle.cfs_inode.specs.View.{held_of, seens_of, state_view, told_cell, told_doubt};
-ghost use Rattle.cfs_inode.specs.View.{told_entry, told_option};
+ghost use Rattle.cfs_inode.specs.View.{told_entry};
 
 use crate::state::{InodeState, State};
 use cfs_block::Block;
@@ -17,7 +18,7 @@ impl<R: Region + Drop, B: Block + Drop> InodeState<R, B> {
         ensures size { R.seen result.0 ≡ (state_view R.seen B.seen self).size }
         ensures entries { map (told_entry (held_of R.seen)) result.1.entries.items ≡
             (state_view R.seen B.seen self).tracker.entries }
-        ensures doubt { told_option (told_doubt (seens_of R.seen)) result.1.doubt ≡
+        ensures doubt { option_map (told_doubt (seens_of R.seen)) result.1.doubt ≡
             (state_view R.seen B.seen self).tracker.doubt }
         ensures cells { map (told_cell B.seen) result.1.cells.items ≡
             (state_view R.seen B.seen self).tracker.cells }

@@ -42,7 +42,7 @@ impl<R: Region + Drop, B: Block + Drop> InodeState<R, B> {
             IsOfSame (R.seen (of_staged staged.old)) (R.seen (of_staged staged.new)) }
     {
         match request {
-            Request::Append { .. } => match staged.set_offset(power, self.tracker.long()) {
+            Request::Append { .. } => match staged.set_offset(power, self.tracker.length()) {
                 Ok(()) => true,
                 Err(_) => false,
             },

@@ -37,13 +37,6 @@ impl<S: Drop, D: Drop, B: Drop> Tracker<S, D, B> {
         self.count
     }
 
-    /// The length of the file after all that was admitted.
-    pub fn long(&self) -> u64
-        ensures { result ≡ (view_of self.now).long }
-    {
-        self.long
-    }
-
     /// Whether the file after the request is short enough. Walks nothing.
     pub fn fits(&self, request: &Request) -> bool
         ensures { result ≡ nat_le (long_after (view_of self.now).long request.now) LONGEST_FILE }

@@ -2,6 +2,7 @@ use Rattle.std.proofs.Common.{rules, ◌≡◌, ◌∙◌, ◌≤◌, ◌<◌, �
 use Rattle.std.proofs.Common.{sym, ℕ}
 use Rattle.std.specs.Prelude.{vec_capacity, vec_len}
 use Rattle.std.proofs.lemmas.List.{length-map}
+use Rattle.std.specs.Option.{option_map}
 use Rattle.cfs_file.specs.declared.sizes.TheConstants.{LONGEST_FILE}
 use Rattle.cfs_file.specs.Span.{span}
 use Rattle.cfs_pmem.specs.Images.{words_of}
@@ -14,7 +15,7 @@ use Rattle.cfs_inode.specs.Admitting.{AdmissionMakes, HasEnough, admit_end, need
 use Rattle.cfs_inode.specs.Ends.{closed, nothing}
 use Rattle.cfs_inode.specs.Placing.{staged_seens}
 use Rattle.cfs_inode.specs.Tagging.{stock_of}
-use Rattle.cfs_inode.specs.View.{StateView, seens_of, state_view, told_doubt, told_option}
+use Rattle.cfs_inode.specs.View.{StateView, seens_of, state_view, told_doubt}
 use Rattle.cfs_inode.proofs.Admittings.{admission-few, admission-long, admission-settles}
 use Rattle.cfs_inode.proofs.Admittings.{admission-unsettled, closed-settled, long-enough}
 use Rattle.cfs_inode.proofs.Admittings.{nothing-settled, too-long}
@@ -34,7 +35,7 @@ returns-then-not-fits g c =
     let grant = grant_of (words_of (words (of_staged c.args.staged))) in
     subst (λ (n : ℕ). AdmissionMakes g.R.Region.obeys_power g.B.Block.obeys_power
     g.B.Block.keeps_refused request grant staged None (too_big n staged) asked stock old asked stock
-    old) (sym c.long.ensures)
+    old) (sym c.length.ensures)
     (admission-long g.R.Region.obeys_power g.B.Block.obeys_power g.B.Block.keeps_refused request
     grant staged asked stock old
     (too-long (long_after (view_of c.args.self.now.tracker).long request) LONGEST_FILE
@@ -243,7 +244,7 @@ returns-in-Closed g c =
     (g.P.Power.asked c.admit_settled.new.power) (stock_of bytes c.admit_settled.new.stock)
     (state_view words bytes c.admit_settled.new.self) (admit_end words c.admit_settled.result)
     enough did c.in-Closed.ensures.makes
-    (ap (λ d. told_option (told_doubt (seens_of words)) d) is.doubt) c.admit_settled.ensures
+    (ap (λ d. option_map (told_doubt (seens_of words)) d) is.doubt) c.admit_settled.ensures
 
 pub returns-in-Nothing : goal.returns-in-Nothing
 returns-in-Nothing g c =
@@ -272,7 +273,7 @@ returns-in-Nothing g c =
     (stock_of bytes c.admit_settled-in-Nothing.new.stock)
     (state_view words bytes c.admit_settled-in-Nothing.new.self)
     (admit_end words c.admit_settled-in-Nothing.result) enough did c.in-Nothing.ensures.makes
-    (ap (λ d. told_option (told_doubt (seens_of words)) d) is.doubt)
+    (ap (λ d. option_map (told_doubt (seens_of words)) d) is.doubt)
     c.admit_settled-in-Nothing.ensures
 
 pub returns-in-Failed : goal.returns-in-Failed

@@ -24,7 +24,7 @@ returns-in-Ok g c =
     (subst (λ (n : ℕ). ReadyMakes g.R.Region.obeys_power c.args.request.now grant staged
     (admitted c.in-Ok.place n (count_in c.args.request.now) c.mark_covered.result) asked_old
     old asked_new new) (sym (c.offset_in-offset.ensures ∙ ap (λ (n : ℕ).
-    offset_in c.args.request.now n) c.long.ensures))
+    offset_in c.args.request.now n) c.length.ensures))
     (ready-opened g.R.Region.obeys_power c.args.request.now grant staged c.in-Ok.place
     c.mark_covered.result asked_old old (g.P.Power.asked c.open.new.power)
     (state_view seen bytes c.open.new.self) asked_new new c.in-Ok.ensures.opens

@@ -8,12 +8,12 @@ use Rattle.cfs_slot.specs.Regions.{head_of, of_live, of_slots, place_of, tails_o
 use Rattle.cfs_core.specs.declared.event.End.TheVariants as ends
 use Rattle.cfs_tracker.specs.Finish.{is_last, size_after}
 use Rattle.cfs_tracker.specs.View.{view_of}
+use Rattle.cfs_inode.specs.Heads.{Closes}
 use Rattle.cfs_inode.specs.declared.size_answer.SizeAnswer.TheVariants as went
 use Rattle.cfs_inode.specs.Backs.{EndMakes, held_back, tile_back}
-use Rattle.cfs_inode.specs.Ends.{Closes}
 use Rattle.cfs_inode.specs.Finishing.{IsAllDone, closing, is_right, keeping, writing}
 use Rattle.cfs_inode.specs.View.{Held, StateView, held_of, seens_of, state_view}
-use Rattle.cfs_inode.proofs.Closings.{closes-err, closes-ok}
+use Rattle.cfs_inode.proofs.Heads.{slots-err, slots-ok}
 use Rattle.cfs_inode.proofs.EndTells.{CameBack, applied-is, came-apart, has-out, last-told, more-is}
 use Rattle.cfs_inode.proofs.EndTells.{put-back-is, retired-is, size-told, unsure-is}
 use Rattle.cfs_inode.proofs.Finishings.{fails-made, more-made, retired-made}
@@ -180,7 +180,7 @@ returns-in-Ok-clause-finishes g c =
     let closes = subst (λ (l : Live _ _). Closes g.R.Region.obeys_power (Ok tt)
     (g.P.Power.asked c.set_size.new.power) (map g.R.Region.seen (regions_of l))
     (g.P.Power.asked c.close_gate.new.power) slots) c.into_parts-live.ensures.request
-    (closes-ok g.R.Region.seen (of_live live) (head_of (of_live live) (of_slots c.in-Ok.slots))
+    (slots-ok g.R.Region.seen (of_live live) (head_of (of_live live) (of_slots c.in-Ok.slots))
     (tails_of_live live) (of_slots c.in-Ok.slots) c.in-Ok.slots c.in-Ok.ensures.set
     c.in-Ok.ensures.slots) in
     let size = g.R.Region.seen c.set_size.new.region in (
@@ -248,7 +248,7 @@ returns-in-Err-clause-finishes g c =
     let closes = subst (λ (l : Live _ _). Closes g.R.Region.obeys_power (Err tt)
     (g.P.Power.asked c.set_size.new.power) (map g.R.Region.seen (regions_of l))
     (g.P.Power.asked c.close_gate.new.power) slots) c.into_parts-live.ensures.request
-    (closes-err g.R.Region.seen (of_live live) (of_live c.in-Err.live) (tails_of_live live)
+    (slots-err g.R.Region.seen (of_live live) (of_live c.in-Err.live) (tails_of_live live)
     (regions_of c.in-Err.live) c.in-Err.live c.in-Err.ensures.set c.in-Err.ensures.slots) in
     let size = g.R.Region.seen c.set_size.new.region in
     let held : Held = record { place = job.place; slots = slots } in

@@ -6,8 +6,8 @@ use Rattle.cfs_tracker.specs.View.{view_of}
 use Rattle.cfs_inode.specs.View.{Held, StateView, held_of, state_view}
 use Rattle.cfs_inode.specs.Makes.{CallMakes}
 use Rattle.cfs_inode.specs.Marking.{with_marked}
-use Rattle.cfs_inode.proofs.Closings.{sets-err, sets-ok}
-use Rattle.cfs_inode.proofs.Marks.{mark-made, marks-err, marks-ok}
+use Rattle.cfs_inode.proofs.Heads.{heads-err, heads-ok, sets-err, sets-ok}
+use Rattle.cfs_inode.proofs.Marks.{mark-made}
 use Rattle.cfs_inode.proofs.MarkTells.{held-now, state-marked, state-waiting}
 use Rattle.cfs_inode.proofs.Resting.{rests}
 use Rattle.cfs_inode.proofs.States.{state-same}
@@ -45,7 +45,7 @@ returns-in-Ok-clause-marks g c =
       state-waiting seen g.B.Block.seen c.args.self.now c.args.place (Some live)
           c.in-Some.ensures.slots,
       (
-        marks-ok (seen (of_live live)) (seen (of_live now)) tails tt c.in-Ok.ensures.set,
+        heads-ok (seen (of_live live)) (seen (of_live now)) tails tails tt refl c.in-Ok.ensures.set,
         state-marked seen g.B.Block.seen c.args.self.now c.marked.new.self
             (view_of c.take_waiting.new.self) c.args.place now true c.marked.ensures.view
             c.in-Some.ensures.taken
@@ -81,8 +81,8 @@ returns-in-Err-clause-marks g c =
       state-waiting seen g.B.Block.seen c.args.self.now c.args.place (Some live)
           c.in-Some.ensures.slots,
       (
-        marks-err (seen (of_live live)) (seen (of_live now)) tails c.in-Err.field-0
-            c.in-Err.ensures.set,
+        heads-err (seen (of_live live)) (seen (of_live now)) tails tails c.in-Err.field-0
+            refl c.in-Err.ensures.set,
         state-marked seen g.B.Block.seen c.args.self.now c.marked-in-Err.new.self
             (view_of c.take_waiting.new.self) c.args.place now false c.marked-in-Err.ensures.view
             c.in-Some.ensures.taken

@@ -4,9 +4,10 @@ use Rattle.cfs_slot.specs.Regions.{of_doubt, of_live, of_staged, tails_of_doubt,
 use Rattle.cfs_slot.specs.Words.{grant_of}
 use Rattle.cfs_pmem.specs.Images.{words_of}
 use Rattle.cfs_tracker.specs.View.{view_of}
-use Rattle.cfs_inode.specs.Opening.{AdmitMakes, OpensGate, with_admitted, with_doubted}
+use Rattle.cfs_inode.specs.Heads.{OpensGate}
+use Rattle.cfs_inode.specs.Opening.{AdmitMakes, with_admitted, with_doubted}
 use Rattle.cfs_inode.specs.View.{StateView, held_of, seens_of, state_view}
-use Rattle.cfs_inode.proofs.Closings.{opens-err, opens-ok}
+use Rattle.cfs_inode.proofs.Heads.{slots-err, slots-ok}
 use Rattle.cfs_inode.proofs.Openings.{open-failed, open-kept}
 use Rattle.cfs_inode.proofs.Readies.{ready, told-may}
 use Rattle.cfs_inode.proofs.States.{state-admitted, state-doubted}
@@ -19,7 +20,7 @@ returns-in-Ok-clause-opens g c =
     let slots = map seen (regions_of c.in-Ok.live) in
     let place : c.count-place.result + 1 ≡ c.admit.result =
     ap (λ (n : ℕ). n + 1) c.count-place.ensures ∙ sym c.admit.ensures.place in
-    let gate = opens-ok seen (of_staged c.args.staged) (of_live c.in-Ok.live)
+    let gate = slots-ok seen (of_staged c.args.staged) (of_live c.in-Ok.live)
     (tails_of_staged c.args.staged) (regions_of c.in-Ok.live) c.in-Ok.live c.in-Ok.ensures.set
     (ap (λ ts. of_live c.in-Ok.live ∷ ts) c.in-Ok.ensures.tails) in (
       slots,
@@ -63,7 +64,7 @@ returns-in-Err-clause-opens g c =
     let slots = seens_of seen c.in-Err.doubt in
     let place : c.count-place.result + 1 ≡ (view_of c.args.self.now.tracker).count + 1 =
     ap (λ (n : ℕ). n + 1) c.count-place.ensures in
-    let gate = opens-err seen (of_staged c.args.staged) (of_doubt c.in-Err.doubt)
+    let gate = slots-err seen (of_staged c.args.staged) (of_doubt c.in-Err.doubt)
     (tails_of_staged c.args.staged)
     (of_doubt c.in-Err.doubt ∷ tails_of_doubt c.in-Err.doubt) c.in-Err.doubt
     c.in-Err.ensures.set

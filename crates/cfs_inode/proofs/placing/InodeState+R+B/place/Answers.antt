@@ -1,4 +1,5 @@
 use Rattle.std.proofs.Common.{◌≡◌, ◌∙◌, ap, map, Ok, Err, subst, sym, true, false, ℕ}
+use Rattle.std.specs.Option.{option_map}
 use Rattle.cfs_core.specs.May.{is_change}
 use Rattle.cfs_core.specs.Medium.{placed}
 use Rattle.cfs_file.specs.Span.{span}
@@ -6,11 +7,12 @@ use Rattle.cfs_pmem.specs.Images.{words_of}
 use Rattle.cfs_slot.specs.Regions.{of_staged, tails_of_staged, words_in}
 use Rattle.cfs_slot.specs.Words.{request_of, with_offset}
 use Rattle.cfs_tracker.specs.View.{view_of}
-use Rattle.cfs_inode.specs.Placing.{IsStagedFor, Places, SetsHead, staged_seens}
-use Rattle.cfs_inode.specs.View.{seens_of, state_view, told_doubt, told_option}
-use Rattle.cfs_inode.proofs.Closings.{sets-err, sets-ok}
+use Rattle.cfs_inode.specs.Heads.{SetsOffset}
+use Rattle.cfs_inode.specs.Placing.{IsStagedFor, Places, staged_seens}
+use Rattle.cfs_inode.specs.View.{seens_of, state_view, told_doubt}
+use Rattle.cfs_inode.proofs.Heads.{heads-err, heads-ok, sets-err, sets-ok}
 use Rattle.cfs_inode.proofs.Offsets.{offset-made}
-use Rattle.cfs_inode.proofs.Placings.{heads-err, heads-ok, placed-append, placed-other}
+use Rattle.cfs_inode.proofs.Placings.{placed-append, placed-other}
 use Rattle.cfs_inode.proofs.Resting.{rests}
 use Rattle.cfs_inode.proofs.placing.InodeState+R+B.place.Goals as goal
 
@@ -24,11 +26,11 @@ returns-in-Ok-clause-places g c =
     let new = staged_seens words c.set_offset.new.self in
     subst (λ r. Places g.R.Region.obeys_power r long true asked_old old asked_new new)
     (sym c.in-Append.is)
-    (subst (λ (n : ℕ). SetsHead g.R.Region.obeys_power n (Ok tt) asked_old old asked_new new)
-    c.long.ensures
+    (subst (λ (n : ℕ). SetsOffset g.R.Region.obeys_power n (Ok tt) asked_old old asked_new new)
+    c.length.ensures
     (heads-ok (words (of_staged c.args.staged.now)) (words (of_staged c.set_offset.new.self))
     (map words (tails_of_staged c.args.staged.now))
-    (map words (tails_of_staged c.set_offset.new.self)) c.long.result c.in-Ok.field-0
+    (map words (tails_of_staged c.set_offset.new.self)) c.in-Ok.field-0
     (ap (λ ts. map words ts) c.in-Ok.ensures.tails) c.in-Ok.ensures.set))
 
 pub returns-in-Ok-clause-makes : goal.returns-in-Ok-clause-makes
@@ -36,9 +38,9 @@ returns-in-Ok-clause-makes g c =
     let words = g.R.Region.seen in
     offset-made (state_view words g.B.Block.seen c.args.self.now)
     (words (of_staged c.args.staged.now)) (words (of_staged c.set_offset.new.self))
-    (map words (tails_of_staged c.args.staged.now)) 2 c.long.result g.R.Region.obeys_power (Ok tt)
+    (map words (tails_of_staged c.args.staged.now)) 2 c.length.result g.R.Region.obeys_power (Ok tt)
     (g.P.Power.asked c.args.power.now) (g.P.Power.asked c.set_offset.new.power)
-    (ap (λ d. told_option (told_doubt (seens_of words)) d) c.requires.settled)
+    (ap (λ d. option_map (told_doubt (seens_of words)) d) c.requires.settled)
     c.args.staged.now.closed (sets-ok c.in-Ok.field-0 c.in-Ok.ensures.set)
 
 pub returns-in-Ok-clause-placed : goal.returns-in-Ok-clause-placed
@@ -52,7 +54,7 @@ returns-in-Ok-clause-placed g c = λ is_true.
     let change = subst (λ r. is_change r ≡ true) c.in-Append.is c.requires.change in
     let held = subst (λ r. IsStagedFor r was) c.in-Append.is c.requires.staged in
     let set : now ≡ with_offset long was =
-    c.in-Ok.ensures.request ∙ ap (λ (n : ℕ). with_offset n was) c.long.ensures in
+    c.in-Ok.ensures.request ∙ ap (λ (n : ℕ). with_offset n was) c.length.ensures in
     record {
       holds = subst (λ r. now ≡ placed (span r long) r) (sym c.in-Append.is)
           (placed-append c.in-Append.bytes long held.0 was now change held.1 set);
@@ -69,11 +71,11 @@ returns-in-Err-clause-places g c =
     let new = staged_seens words c.set_offset.new.self in
     subst (λ r. Places g.R.Region.obeys_power r long false asked_old old asked_new new)
     (sym c.in-Append.is)
-    (subst (λ (n : ℕ). SetsHead g.R.Region.obeys_power n (Err tt) asked_old old asked_new new)
-    c.long.ensures
+    (subst (λ (n : ℕ). SetsOffset g.R.Region.obeys_power n (Err tt) asked_old old asked_new new)
+    c.length.ensures
     (heads-err (words (of_staged c.args.staged.now)) (words (of_staged c.set_offset.new.self))
     (map words (tails_of_staged c.args.staged.now))
-    (map words (tails_of_staged c.set_offset.new.self)) c.long.result c.in-Err.field-0
+    (map words (tails_of_staged c.set_offset.new.self)) c.in-Err.field-0
     (ap (λ ts. map words ts) c.in-Err.ensures.tails) c.in-Err.ensures.set))
 
 pub returns-in-Err-clause-makes : goal.returns-in-Err-clause-makes
@@ -81,9 +83,9 @@ returns-in-Err-clause-makes g c =
     let words = g.R.Region.seen in
     offset-made (state_view words g.B.Block.seen c.args.self.now)
     (words (of_staged c.args.staged.now)) (words (of_staged c.set_offset.new.self))
-    (map words (tails_of_staged c.args.staged.now)) 2 c.long.result g.R.Region.obeys_power
+    (map words (tails_of_staged c.args.staged.now)) 2 c.length.result g.R.Region.obeys_power
     (Err tt) (g.P.Power.asked c.args.power.now) (g.P.Power.asked c.set_offset.new.power)
-    (ap (λ d. told_option (told_doubt (seens_of words)) d) c.requires.settled)
+    (ap (λ d. option_map (told_doubt (seens_of words)) d) c.requires.settled)
     c.args.staged.now.closed (sets-err c.in-Err.field-0 c.in-Err.ensures.set)
 
 pub returns-in-Write-clause-makes : goal.returns-in-Write-clause-makes

@@ -6,7 +6,7 @@ use Rattle.cfs_tracker.specs.Settle.{doubt_slots}
 use Rattle.cfs_tracker.specs.View.{TrackerView, view_of}
 use Rattle.cfs_inode.specs.View.{StateView, seens_of, state_view}
 use Rattle.cfs_inode.specs.Makes.{CallMakes}
-use Rattle.cfs_inode.proofs.Closings.{closes-err, closes-ok}
+use Rattle.cfs_inode.proofs.Heads.{slots-err, slots-ok}
 use Rattle.cfs_inode.proofs.Resting.{rests}
 use Rattle.cfs_inode.proofs.Settlings.{settle-done, settle-failed}
 use Rattle.cfs_inode.proofs.States.{some-taken, state-doubt, state-same, state-settled}
@@ -57,7 +57,7 @@ returns-in-Ok-clause-settles g c = (
   state-doubt g.R.Region.seen g.B.Block.seen c.args.self.now (Some c.in-Some.doubt)
       c.in-Some.ensures.slots,
   (
-    closes-ok g.R.Region.seen (of_doubt c.in-Some.doubt)
+    slots-ok g.R.Region.seen (of_doubt c.in-Some.doubt)
         (head_of (of_doubt c.in-Some.doubt) (of_slots c.in-Ok.slots))
         (tails_of_doubt c.in-Some.doubt) (of_slots c.in-Ok.slots) c.in-Ok.slots
         c.in-Ok.ensures.set c.in-Ok.ensures.slots,
@@ -84,7 +84,7 @@ returns-in-Err-clause-settles g c = (
   state-doubt g.R.Region.seen g.B.Block.seen c.args.self.now (Some c.in-Some.doubt)
       c.in-Some.ensures.slots,
   (
-    closes-err g.R.Region.seen (of_doubt c.in-Some.doubt) (of_doubt c.in-Err.doubt)
+    slots-err g.R.Region.seen (of_doubt c.in-Some.doubt) (of_doubt c.in-Err.doubt)
         (tails_of_doubt c.in-Some.doubt) (of_doubt c.in-Err.doubt ∷ tails_of_doubt c.in-Err.doubt)
         c.in-Err.doubt c.in-Err.ensures.set c.in-Err.ensures.slots,
     state-unsettled g.R.Region.seen g.B.Block.seen c.args.self.now c.put_doubt.new.self

@@ -7,7 +7,7 @@ use Rattle.cfs_tracker.specs.View.{TrackerView, entry_at, view_of}
 use Rattle.cfs_inode.specs.View.{Held, StateView, held_of, state_view}
 use Rattle.cfs_inode.specs.Ends.{with_noop}
 use Rattle.cfs_inode.specs.Makes.{CallMakes}
-use Rattle.cfs_inode.proofs.Closings.{closes-err, closes-ok}
+use Rattle.cfs_inode.proofs.Heads.{slots-err, slots-ok}
 use Rattle.cfs_inode.proofs.Resting.{rests}
 use Rattle.cfs_inode.proofs.Skips.{skip-done, skip-failed, taken-closing}
 use Rattle.cfs_inode.proofs.States.{state-noop, state-same, state-skipped, state-unclosed}
@@ -53,7 +53,7 @@ returns-in-Ok-clause-skips g c = (
   state-noop g.R.Region.seen g.B.Block.seen c.args.self.now c.args.place (Some c.in-Some.live)
       c.in-Some.ensures.slots,
   (
-    closes-ok g.R.Region.seen (of_live c.in-Some.live)
+    slots-ok g.R.Region.seen (of_live c.in-Some.live)
         (head_of (of_live c.in-Some.live) (of_slots c.in-Ok.slots))
         (tails_of_live c.in-Some.live) (of_slots c.in-Ok.slots) c.in-Ok.slots
         c.in-Ok.ensures.set c.in-Ok.ensures.slots,
@@ -85,7 +85,7 @@ returns-in-Err-clause-skips g c =
       state-noop g.R.Region.seen g.B.Block.seen c.args.self.now c.args.place
           (Some c.in-Some.live) c.in-Some.ensures.slots,
       (
-        closes-err g.R.Region.seen (of_live c.in-Some.live) (of_live c.in-Err.live)
+        slots-err g.R.Region.seen (of_live c.in-Some.live) (of_live c.in-Err.live)
             (tails_of_live c.in-Some.live) (regions_of c.in-Err.live) c.in-Err.live
             c.in-Err.ensures.set c.in-Err.ensures.slots,
         state-unclosed g.R.Region.seen g.B.Block.seen c.args.self.now c.put_covered.new.self
