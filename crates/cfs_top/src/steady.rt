@@ -30,7 +30,8 @@ use std::alloc::Global;
 /// script of more than one caller and the file `/a` is refused yet.
 ///
 /// `upgrade IMAGE NEW` saves what the image of version 1 becomes as an image of the present
-/// version, under another name. It reads no input, and the old image stays as it was.
+/// version, under another name. It reads no input, and the old image stays as it was. Two spellings
+/// of one path count as two names; then the new image replaces the old one.
 pub fn crossfs_steady<S: Source, K: Sink, H: Shelf>(
     alloc: Global,
     words: &[Word],
