@@ -7,7 +7,7 @@ use Rattle.cfs_pmem.specs.declared.trace.Asked.{Asked}
 use Rattle.cfs_pmem.specs.Images as regions
 use Rattle.cfs_pmem.specs.Images.{MemoryRegion, Seen, WordStep, words_of}
 use Rattle.cfs_block.specs.BlockImages as blocks
-use Rattle.cfs_block.specs.BlockImages.{BlockStep, Content, content_of}
+use Rattle.cfs_block.specs.BlockImages.{content_of}
 use Rattle.cfs_block.specs.MemoryBlocks.{seen_of}
 use Rattle.cfs_block.specs.declared.mem_block.MemBlock.{MemBlock}
 use Rattle.cfs_image.specs.Image.{IsNewBlock, IsNewRegion, contents_in, image_of, words_in}
