@@ -76,9 +76,9 @@ crashed k drive = record {
   blocks = blocks_left (after_regions (pick_of k) drive.regions) drive.blocks;
 }
 
--- The devices are as the crash leaves them, and nobody has a descriptor. The rest of the world stays
--- for the laws to speak of: no line of a file or of the tree reaches it, and the next mount makes it
--- anew.
+-- The devices are as the crash leaves them, and nobody has a descriptor. The rest of the world
+-- stays for the laws to speak of: no line of a file or of the tree reaches it, and the next mount
+-- makes it anew.
 abbrev pub crash_in : ℕ → World → World
 crash_in k world = record world {
   drive = crashed k world.drive;

@@ -48,7 +48,8 @@ pub fn upgrade_bytes(alloc: Global, bytes: &[u8]) -> Result<Bytes, ImageRefusal>
 /// a word 0 behind it.
 fn push_records(image: &mut Vec<u8>, old: &[u8]) -> Result<(), NoMemory>
     requires { journal_at_in First JOURNAL_RECORDS ≤ length old.now }
-    ensures { OnOk result (image.new.items ≡ image.old.items ++ records_moved old.now JOURNAL_RECORDS) }
+    ensures { OnOk result
+        (image.new.items ≡ image.old.items ++ records_moved old.now JOURNAL_RECORDS) }
 {
     for position in 0..JOURNAL_RECORDS {
         let from = old_record_at(position);

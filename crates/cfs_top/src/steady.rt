@@ -2,7 +2,8 @@
 
 ghost use Rattle.std.specs.Prelude.{◌≡◌, ◌≢◌, ◌≤◌, List, ℕ};
 ghost use Rattle.std.specs.declared.option.Option.{Option};
-ghost use Rattle.cfs_image.specs.declared.layout.TheConstants.{FEWEST_BLOCKS, FEWEST_QUEUES, MOST_BLOCKS, MOST_QUEUES};
+ghost use Rattle.cfs_image.specs.declared.layout.TheConstants.{FEWEST_BLOCKS, FEWEST_QUEUES};
+ghost use Rattle.cfs_image.specs.declared.layout.TheConstants.{MOST_BLOCKS, MOST_QUEUES};
 ghost use Rattle.cfs_pmem.specs.Faults.{Rose};
 ghost use Rattle.cfs_io.specs.Streams.{SomeCame};
 ghost use Rattle.cfs_top.specs.Outside.{Ends, Makes, PlayIsDue, Writes};
@@ -10,13 +11,14 @@ ghost use Rattle.cfs_top.specs.Outside.{Ends, Makes, PlayIsDue, Writes};
 use crate::Status;
 use crate::command::{image_to_play, image_to_upgrade, store_to_make};
 use crate::play::{PlayEnd, play_script};
+use crate::save::save;
 use crate::say::say;
 use crate::stage::are_served;
 use crate::upgrade::upgrade;
 use crate::world::World;
 use cfs_file::{NoMemory, Word};
 use cfs_image::new_image;
-use cfs_io::{IoFault, ReadRefusal, Shelf, Sink, Source, read_script};
+use cfs_io::{ReadRefusal, Shelf, Sink, Source, read_script};
 use cfs_script::{ScriptRefusal, read_play};
 use std::alloc::Global;
 
@@ -103,10 +105,7 @@ fn mkfs<H: Shelf>(alloc: Global, image: &Word, blocks: u32, queues: u32, shelf: 
         Ok(bytes) => bytes,
         Err(NoMemory) => return Status::NoMemory,
     };
-    match shelf.save(image, bytes.as_slice()) {
-        Ok(()) => Status::Done,
-        Err(IoFault) => Status::Shelf,
-    }
+    save(shelf, image, bytes.as_slice())
 }
 
 /// Reads a script from `input` and plays it.
