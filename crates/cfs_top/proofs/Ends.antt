@@ -1,12 +1,11 @@
 -- How calls of the program end.
-use Rattle.std.proofs.Common.{◌≡◌, ◌∙◌, ◌⊎◌, ◌≤◌, length, inl, inr, ℕ, Some, None, List, []}
+use Rattle.std.proofs.Common.{◌≡◌, ◌⊎◌, ◌≤◌, length, inl, inr, ℕ, Some, None, List, []}
 use Rattle.std.proofs.Common.{refl, subst, sym, true}
 use Rattle.std.specs.declared.option.Option.{Option}
 use Rattle.std.specs.Io.KnownBytes.{Consumes, IsAtEnd}
 use Rattle.cfs_file.specs.declared.entry.Entry.{Entry}
 use Rattle.cfs_io.specs.declared.script.TheConstants.{LONGEST_SCRIPT}
-use Rattle.cfs_io.specs.Files.{Files, OthersKept, Saved}
-use Rattle.cfs_pmem.specs.Faults.{Rose}
+use Rattle.cfs_io.specs.Files.{Files}
 use Rattle.cfs_image.specs.Fresh.{new_image_of}
 use Rattle.cfs_move.specs.Upgraded.{upgraded}
 use Rattle.cfs_script.specs.declared.line.Line.{Line}
@@ -18,7 +17,7 @@ use Rattle.cfs_top.specs.declared.status.Status.{Status}
 use Rattle.cfs_top.specs.declared.status.Status.TheVariants.{Done, Usage, Script, Image, Input}
 use Rattle.cfs_top.specs.declared.status.Status.TheVariants.{Output, Shelf, NoMemory, Absent}
 use Rattle.cfs_top.specs.Command.{IsMkfs, IsUpgrade}
-use Rattle.cfs_top.specs.Outside.{ArePlay, Ends, EndsSave, IsDue, IsHeeded, IsOldImage}
+use Rattle.cfs_top.specs.Outside.{ArePlay, Ends, IsDue, IsHeeded}
 use Rattle.cfs_top.specs.Outside.{LeavesShelf, Makes, PlayIsDue}
 use Rattle.cfs_top.specs.Outside.{SaveNone, Says, Shelved, UpgradeIsDue, Upgrades, Writes}
 use Rattle.cfs_top.specs.Outside.{WritesAll, WritesFront}
@@ -290,47 +289,3 @@ said_upgrades result status text before after image name old new made same (inl 
     subst (λ s. Upgrades s image name old new) (sym all.0) made
 said_upgrades result status text before after image name old new made same (inr front) =
     subst (λ s. Upgrades s image name old new) (sym front.0) same
-
--- ---- what a save leaves
-
-pub save_makes : (status : Status) (image bytes : List ℕ) (blocks queues : ℕ) (old new : Shelved) →
-    bytes ≡ new_image_of blocks queues → EndsSave status image bytes old new →
-    Makes status image blocks queues old new
-save_makes status image bytes blocks queues old new is (inl saved) =
-    subst (λ s. Makes s image blocks queues old new) (sym saved.0)
-    (subst (λ b. Saved old.files new.files image b) is saved.1)
-save_makes status image bytes blocks queues old new is (inr fails) =
-    subst (λ s. Makes s image blocks queues old new) (sym fails.0) fails.1
-
--- from a shelf that was as before
-pub save_upgrades : (status : Status) (image name from bytes : List ℕ) (old mid new : Shelved) →
-    mid.files ≡ old.files → mid.loads ≡ old.loads → mid.saves ≡ old.saves →
-    IsOldImage old.files image from → bytes ≡ upgraded from →
-    EndsSave status name bytes mid new → Upgrades status image name old new
-save_upgrades status image name from bytes old mid new files loads saves is_old is (inl saved) =
-    subst (λ s. Upgrades s image name old new) (sym saved.0) (record {
-      bytes = from;
-      is_old = is_old;
-      saved = subst (λ b. Saved old.files new.files name b) is
-          (subst (λ fs. Saved fs new.files name bytes) files saved.1);
-    })
-save_upgrades status image name from bytes old mid new files loads saves is_old is (inr fails) =
-    subst (λ s. Upgrades s image name old new) (sym fails.0) (inr (record {
-      bytes = from;
-      is_old = is_old;
-      fails = record {
-        rose = subst (λ (n : ℕ). Rose n new.saves) saves fails.1.rose;
-        loads = fails.1.loads ∙ loads;
-        others = subst (λ fs. OthersKept fs new.files name) files fails.1.others;
-      };
-    }))
-
--- nothing was written
-pub save_writes : (due : Status → List ℕ → Type 0) (status : Status) (name bytes : List ℕ)
-    (written : Option (List ℕ)) (old new : Shelved) →
-    due Done [] → EndsSave status name bytes old new → Writes due status written written
-save_writes due status name bytes written old new is_due (inl saved) =
-    subst (λ s. Writes due s written written) (sym saved.0)
-    (record { text = []; is_due = is_due; written = Appends-none written })
-save_writes due status name bytes written old new is_due (inr fails) =
-    subst (λ s. Writes due s written written) (sym fails.0) refl

@@ -190,12 +190,6 @@ pub record SaveFails (name : List ℕ) (before after : Shelved) : Type 0 where
   pub loads : after.loads ≡ before.loads
   pub others : OthersKept before.files after.files name
 
--- the bytes were saved under this name, with which the call is done, or the save met a fault
-abbrev pub EndsSave : Status → List ℕ → List ℕ → Shelved → Shelved → Type 0
-EndsSave result name bytes before after =
-    ((result ≡ Done) × Saved before.files after.files name bytes)
-    ⊎ ((result ≡ Shelf) × SaveFails name before after)
-
 -- the bytes that were to be saved under a name met a fault
 pub record FailsToSave (words : List (List ℕ)) (before after : Shelved) : Type 0 where
   pub name : List ℕ

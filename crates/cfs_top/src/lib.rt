@@ -6,7 +6,6 @@ mod command;
 mod out_line;
 mod play;
 mod printed;
-mod save;
 mod say;
 mod stage;
 mod status;

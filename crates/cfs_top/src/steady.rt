@@ -11,14 +11,13 @@ ghost use Rattle.cfs_top.specs.Outside.{Ends, Makes, PlayIsDue, Writes};
 use crate::Status;
 use crate::command::{image_to_play, image_to_upgrade, store_to_make};
 use crate::play::{PlayEnd, play_script};
-use crate::save::save;
 use crate::say::say;
 use crate::stage::are_served;
 use crate::upgrade::upgrade;
 use crate::world::World;
 use cfs_file::{NoMemory, Word};
 use cfs_image::new_image;
-use cfs_io::{ReadRefusal, Shelf, Sink, Source, read_script};
+use cfs_io::{IoFault, ReadRefusal, Shelf, Sink, Source, read_script};
 use cfs_script::{ScriptRefusal, read_play};
 use std::alloc::Global;
 
@@ -105,7 +104,10 @@ fn mkfs<H: Shelf>(alloc: Global, image: &Word, blocks: u32, queues: u32, shelf: 
         Ok(bytes) => bytes,
         Err(NoMemory) => return Status::NoMemory,
     };
-    save(shelf, image, bytes.as_slice())
+    match shelf.save(image, bytes.as_slice()) {
+        Ok(()) => Status::Done,
+        Err(IoFault) => Status::Shelf,
+    }
 }
 
 /// Reads a script from `input` and plays it.

@@ -7,11 +7,10 @@ ghost use Rattle.cfs_top.specs.Outside.{Says, UpgradeIsDue, Upgrades, Writes};
 ghost use Rattle.cfs_top.specs.Text.{damaged_text};
 
 use crate::Status;
-use crate::save::save;
 use crate::say::say;
 use cfs_file::{NoMemory, Word};
 use cfs_image::ImageRefusal;
-use cfs_io::{LoadRefusal, Shelf, Sink};
+use cfs_io::{IoFault, LoadRefusal, Shelf, Sink};
 use cfs_move::upgrade_bytes;
 use std::alloc::Global;
 
@@ -58,7 +57,10 @@ pub(crate) fn upgrade<K: Sink, H: Shelf>(
         ) => return refuse(alloc, offset, found, against, output),
         Err(ImageRefusal::NoMemory) => return Status::NoMemory,
     };
-    save(shelf, new, upgraded.as_slice())
+    match shelf.save(new, upgraded.as_slice()) {
+        Ok(()) => Status::Done,
+        Err(IoFault) => Status::Shelf,
+    }
 }
 
 /// Writes which damage an image has.

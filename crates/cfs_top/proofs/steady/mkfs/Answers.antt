@@ -1,7 +1,4 @@
-use Rattle.std.proofs.Common.{◌∙◌}
-use Rattle.cfs_top.proofs.Ends.{save_makes}
 use Rattle.cfs_top.proofs.steady.mkfs.Goals as goal
 
-pub returns-clause-made : goal.returns-clause-made
-returns-clause-made g c =
-    save_makes _ _ _ _ _ _ _ (c.as_slice.ensures ∙ c.in-Ok.ensures.image) c.save.ensures.ended
+pub returns-in-Ok-save-clause-made : goal.returns-in-Ok-save-clause-made
+returns-in-Ok-save-clause-made g c = rw (c.as_slice.ensures, c.in-Ok.ensures.image) at c.in-Ok-save.ensures.saved

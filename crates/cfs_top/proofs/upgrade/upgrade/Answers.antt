@@ -1,9 +1,7 @@
-use Rattle.std.proofs.Common.{◌∙◌, [], ap, refl, subst}
+use Rattle.std.proofs.Common.{[], refl, subst}
 use Rattle.cfs_move.specs.Refusals.{IsOldSound, NamesOldDamage}
-use Rattle.cfs_move.specs.Upgraded.{upgraded}
-use Rattle.cfs_top.specs.Outside.{IsOldImage}
-use Rattle.cfs_top.proofs.Ends.{refused_writes, said_upgrades, said_writes, save_upgrades}
-use Rattle.cfs_top.proofs.Ends.{save_writes}
+use Rattle.cfs_top.proofs.Ends.{refused_writes, said_upgrades, said_writes}
+use Rattle.cfs_top.proofs.Runs.{Appends-none}
 use Rattle.cfs_top.proofs.upgrade.upgrade.Goals as goal
 
 pub returns-in-Err-Absent-clause-writes : goal.returns-in-Err-Absent-clause-writes
@@ -34,16 +32,19 @@ returns-in-Err-Damaged-clause-writes g c =
       is_text = refl;
     }) c.refuse.ensures.said
 
-pub returns-clause-writes : goal.returns-clause-writes
-returns-clause-writes g c =
-    save_writes _ _ _ _ _ _ _ (
-      (
-        c.in-Ok.bytes,
-        record {
-          found = c.in-Ok.ensures.found;
-          sound = subst (λ bytes. IsOldSound bytes) c.as_slice.ensures
-              c.in-Ok-upgrade_bytes.ensures.old_sound;
-        },
-      ),
-      refl,
-    ) c.save.ensures.ended
+pub returns-in-Ok-save-clause-writes : goal.returns-in-Ok-save-clause-writes
+returns-in-Ok-save-clause-writes g c = record {
+  text = [];
+  is_due = (
+    (
+      c.in-Ok.bytes,
+      record {
+        found = c.in-Ok.ensures.found;
+        sound = subst (λ bytes. IsOldSound bytes) c.as_slice.ensures
+            c.in-Ok-upgrade_bytes.ensures.old_sound;
+      },
+    ),
+    refl,
+  );
+  written = Appends-none _;
+}
