@@ -2,12 +2,11 @@
 use Rattle.std.proofs.Common.{true, false, Some, None, [], ◌∷◌, refl}
 use Rattle.std.specs.Prelude.{Ok}
 use Rattle.cfs_print.specs.declared.printed.Printed.TheVariants as answers
-use Rattle.cfs_words.specs.declared.flags.Flags.{Flags}
 use Rattle.cfs_script.specs.declared.form.Form.TheVariants as forms
 use Rattle.cfs_meaning.specs.Drive.{Drive}
 use Rattle.cfs_meaning.specs.World.{Descriptor, World}
 use Rattle.cfs_meaning.specs.Laws.{IsCalm}
-use Rattle.cfs_meaning.specs.Example.{TheLinesAnswer, new_world}
+use Rattle.cfs_meaning.specs.Example.{TheLinesAnswer, its_flags, new_world}
 use Rattle.cfs_meaning.specs.Files.{clear_way, serve_helped, serves, works}
 use Rattle.cfs_file.specs.declared.request.Request.TheVariants as requests
 use Rattle.cfs_meaning.specs.Inode.{admit_read, apply, comes, dispatch, finish, run_job, serve}
@@ -21,11 +20,8 @@ abbrev line-one : (drive : Drive) →
     (new : World) × does 1 (forms.Caller 1 10 10) (new_world 1 drive) (Ok None) new
 line-one drive = (_, follows changes gives)
 
-abbrev flags : Flags
-flags = record { read = true; write = true; create = true; exclusive = false; append = false }
-
 abbrev line-two : (drive : Drive) → IsCalm drive →
-    (new : World) × does 2 (forms.Open 1 ((97 ∷ []) ∷ []) flags 420) (line-one drive).0
+    (new : World) × does 2 (forms.Open 1 ((97 ∷ []) ∷ []) its_flags 420) (line-one drive).0
     (Ok (Some (answers.Opened 1 0 2))) new
 line-two drive calm = (
   _,

@@ -10,7 +10,7 @@ use Rattle.cfs_meaning.specs.World.{World, core_in, with_core}
 use Rattle.cfs_meaning.specs.Inode.{Comes, comes, event}
 use Rattle.cfs_meaning.specs.Ways.{Changes, Ends, Gives, Halt, Now, Then, Tries, Way, changes}
 use Rattle.cfs_meaning.specs.Ways.{end_with, ends, follows, give, gives, halts, known, now}
-use Rattle.cfs_meaning.specs.Ways.{refuse_if, steps, tried, unless_fault, ◌>>=◌}
+use Rattle.cfs_meaning.specs.Ways.{refuse_if, tried, unless_fault, ◌>>=◌}
 use Rattle.cfs_meaning.proofs.Total.{IfEnds, weaker-ends, with_attempt}
 
 -- Where P holds before the part, Q holds behind it of its value and the world, and E where it
@@ -108,12 +108,6 @@ pub leave-unless : {P : World → Type 0} {Q : (Unit {0}) → World → Type 0} 
     Leaves P Q E (unless_fault kept)
 leave-unless true good bad = leave-give good
 leave-unless false good bad = leave-end bad
-
-pub leave-steps : {P : World → Type 0} {E : World → Type 0} {ops : List Op} →
-    ((w : World) → P w → P (with_attempt ops w)) → ((w : World) → P w → E w) →
-    Leaves P (λ u. P) E (steps ops)
-leave-steps {P = P} kept ill =
-    leave-then {Q = λ b. P} (leave-tries kept) (λ b. leave-unless b (λ w holds. holds) ill)
 
 pub leave-refuse : {P : World → Type 0} {E : World → Type 0} (test : Bool) (answer : Printed) →
     ((w : World) → P w → E w) →

@@ -165,9 +165,6 @@ at-branch {ino} {place} b old end new is way =
 
 -- ---- one end
 
-Same : Result (Unit {0}) Halt → Result (Unit {0}) Halt → World → World → Type 0
-Same one other new also = (one ≡ other) × (new ≡ also)
-
 skip-end : {ino place : ℕ} (old : World) (end : Result (Unit {0}) Halt) (new : World) →
     Doing ino place skipping old end new → skip ino place old end new
 skip-end old end new (d_skips way) = way

@@ -3,11 +3,12 @@ use Rattle.std.proofs.Common.{◌≡◌, ◌∙◌, ℕ, suc, ◌+◌, List, [],
 use Rattle.std.specs.Prelude.{Result, Ok, Err, IfOk}
 use Rattle.std.specs.List.{All, enumerate_from, range_with_len}
 use Rattle.std.proofs.lemmas.List.{length-map}
+use Rattle.std.proofs.lemmas.Simd.{map-map}
 use Rattle.cfs_pmem.specs.declared.trace.Asked.{Asked}
 use Rattle.cfs_pmem.specs.Images as regions
 use Rattle.cfs_pmem.specs.Images.{MemoryRegion, Seen, WordStep, words_of}
 use Rattle.cfs_block.specs.BlockImages as blocks
-use Rattle.cfs_block.specs.BlockImages.{BlockStep, Content, content_of}
+use Rattle.cfs_block.specs.BlockImages.{content_of}
 use Rattle.cfs_block.specs.MemoryBlocks.{seen_of}
 use Rattle.cfs_block.specs.declared.mem_block.MemBlock.{MemBlock}
 use Rattle.cfs_image.specs.Image.{IsNewBlock, IsNewRegion, contents_in, image_of, words_in}
@@ -48,17 +49,12 @@ all-began see holds began (x ∷ xs) n new numbers =
     (rest-of (λ y. see y ≡ began (see y).device (holds y)) x xs new)
     (ap (λ l. drop 1 l) numbers))
 
-map-both : {X Y Z : Type 0} (f : Y → Z) (g : X → Y) (xs : List X) →
-    map f (map g xs) ≡ map (λ x. f (g x)) xs
-map-both f g [] = refl
-map-both f g (x ∷ xs) = ap (λ l. f (g x) ∷ l) (map-both f g xs)
-
 -- the devices of objects that have the numbers from one on
 numbered : {Form X : Type 0} (see : X → Seen Form) (xs : List X) (n : ℕ) →
     map (λ (s : Seen Form). s.device) (map see xs) ≡ range_with_len n (length (map see xs)) →
     map (λ x. (see x).device) xs ≡ range_with_len n (length xs)
 numbered see xs n is =
-    sym (map-both (λ s. s.device) see xs) ∙ is
+    sym (map-map (λ s. s.device) see xs) ∙ is
     ∙ ap (λ k. range_with_len n k) (length-map xs see)
 
 pub loaded-so : (rs : List MemoryRegion) (bs : List MemBlock) (numbers : List ℕ) →
@@ -88,6 +84,6 @@ pub saved-so : (asked : List Asked) (rs : List MemoryRegion) (bs : List MemBlock
     image_of (words_in rs) (contents_in bs) ≡ saved (drive_of asked rs bs)
 saved-so asked rs bs =
     ap (λ w. image_of w (contents_in bs))
-    (sym (map-both words_of (λ (r : MemoryRegion). r.seen) rs))
+    (sym (map-map words_of (λ (r : MemoryRegion). r.seen) rs))
     ∙ ap (image_of (map words_of (map (λ (r : MemoryRegion). r.seen) rs)))
-    (sym (map-both content_of seen_of bs))
+    (sym (map-map content_of seen_of bs))

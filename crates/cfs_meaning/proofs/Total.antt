@@ -10,7 +10,7 @@ use Rattle.cfs_meaning.specs.Drive.{Op, attempt}
 use Rattle.cfs_meaning.specs.World.{World, core_in, with_core}
 use Rattle.cfs_meaning.specs.Inode.{comes, event}
 use Rattle.cfs_meaning.specs.Ways.{Changes, Halt, Now, Repeats, Shrugs, Then, Tries, Way, breaks}
-use Rattle.cfs_meaning.specs.Ways.{breaks_later, changes, choose, counts, each, end_with, ends}
+use Rattle.cfs_meaning.specs.Ways.{breaks_later, changes, counts, each, end_with, ends}
 use Rattle.cfs_meaning.specs.Ways.{follows, give, gives, halts, known, now, only_if, refuse_if}
 use Rattle.cfs_meaning.specs.Ways.{rests, shrugs, steps, tried, unless_fault, when, whole, ◌>>=◌}
 
@@ -139,12 +139,6 @@ pub total-when : {P : World → Type 0} {Q : (Unit {0}) → World → Type 0} {E
     (test ≡ false → (w : World) → P w → Q tt w) → Total P Q E (when test way)
 total-when true one other = one refl
 total-when false one other = total-give (other refl)
-
-pub total-choose : {A : Type 0} {P : World → Type 0} {Q : A → World → Type 0}
-    {E : World → Type 0} (test : Bool) {one other : Way A} → (test ≡ true → Total P Q E one) →
-    (test ≡ false → Total P Q E other) → Total P Q E (choose test one other)
-total-choose true a b = a refl
-total-choose false a b = b refl
 
 pub total-refuse : {P : World → Type 0} {E : World → Type 0} (test : Bool) (answer : Printed) →
     ((w : World) → P w → E w) →

@@ -1,14 +1,17 @@
 -- The devices of a store under one power: what is asked of them, one operation after another, until
 -- one is refused.
-use Rattle.std.specs.Prelude.{ℕ, ◌+◌, Bool, true, false, List, [], ◌∷◌, length, map, reverse, set, if◌then◌else◌}
+use Rattle.std.specs.Prelude.{ℕ, ◌+◌, Bool, true, false, List, [], ◌∷◌, length, map, reverse, set}
+use Rattle.std.specs.Prelude.{if◌then◌else◌}
 use Rattle.cfs_pmem.specs.declared.trace.Asked.{Asked}
 use Rattle.cfs_pmem.specs.Images.{Seen, WordStep, failed, words_of}
 use Rattle.cfs_pmem.specs.Meter.{answer}
 use Rattle.cfs_pmem.specs.Objects.{seen_at}
 use Rattle.cfs_pmem.specs.Operations.{Ask, answered}
 use Rattle.cfs_pmem.specs.WordOps.{WordOp, get, put, persist, word_asks, word_done}
-use Rattle.cfs_block.specs.BlockImages.{BlockStep, Content, content_of, unflushed, unretagged, unwritten}
-use Rattle.cfs_block.specs.BlockOps.{BlockOp, get_bytes, get_tag, put_bytes, put_tag, flush, block_asks, block_done}
+use Rattle.cfs_block.specs.BlockImages.{BlockStep, Content, content_of, unflushed, unretagged}
+use Rattle.cfs_block.specs.BlockImages.{unwritten}
+use Rattle.cfs_block.specs.BlockOps.{BlockOp, get_bytes, get_tag, put_bytes, put_tag, flush}
+use Rattle.cfs_block.specs.BlockOps.{block_asks, block_done}
 
 -- All that the power was asked and told, and each device with all its writing steps: what it holds
 -- now, what a crash may leave and what is saved follow from these. A region's place is its device

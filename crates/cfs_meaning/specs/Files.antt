@@ -1,5 +1,7 @@
 -- The lines of callers on files.
-use Rattle.std.specs.Prelude.{◌≡◌, ℕ, ◌+◌, ◌-◌, ◌==◌, Bool, true, false, not, ◌&&◌, ◌||◌, if◌then◌else◌, min, Option, Some, None, Result, Ok, Err, List, [], ◌∷◌, length, map, filter, take, replicate, nat_lt, nat_le}
+use Rattle.std.specs.Prelude.{◌≡◌, ℕ, ◌+◌, ◌-◌, ◌==◌, Bool, true, false, not, ◌&&◌, ◌||◌}
+use Rattle.std.specs.Prelude.{if◌then◌else◌, min, Option, Some, None, Result, Ok, Err, List, []}
+use Rattle.std.specs.Prelude.{◌∷◌, length, map, filter, take, replicate, nat_lt, nat_le}
 use Rattle.std.specs.List.{flat_map, list_any}
 use Rattle.cfs_file.specs.declared.request.Request.{Request}
 use Rattle.cfs_file.specs.declared.request.Request.TheVariants as requests
@@ -20,13 +22,21 @@ use Rattle.cfs_print.specs.declared.listed.Letter.{Letter}
 use Rattle.cfs_print.specs.declared.listed.Letter.TheVariants as letters
 use Rattle.cfs_print.specs.declared.listed.Listed.{Listed}
 use Rattle.cfs_print.specs.declared.printed.Printed.{Printed}
-use Rattle.cfs_print.specs.declared.printed.Printed.TheVariants.{Full, Got, PendingRead, Placed, Queued, Refused, Short, Sought, Wrote, WroteNothing}
+use Rattle.cfs_print.specs.declared.printed.Printed.TheVariants.{Full, Got, PendingRead, Placed}
+use Rattle.cfs_print.specs.declared.printed.Printed.TheVariants.{Queued, Refused, Short, Sought}
+use Rattle.cfs_print.specs.declared.printed.Printed.TheVariants.{Wrote, WroteNothing}
 use Rattle.cfs_meaning.specs.Drive.{Drive}
 use Rattle.cfs_meaning.specs.NameSteps.{closing}
 use Rattle.cfs_meaning.specs.Steps.{staged, zeroed}
-use Rattle.cfs_meaning.specs.World.{Descriptor, File, Held, Queue, World, all_placed, core_in, descriptor_in, file_in, queue_in, with_descriptor, with_descriptors, with_queue}
-use Rattle.cfs_meaning.specs.Ways.{Changes, Fault, Halt, Mends, Now, Repeats, Says, Waits, Way, choose, done, each, end_with, give, known, refuse_if, steps, when, ◌>>=◌, ◌>>◌}
-use Rattle.cfs_meaning.specs.Inode.{Absent, Behind, Ready, Verdict, admit, admit_read, drop_read, is_append, run_job, serve, serve_verdict, settle, skip, unmapped, verdict}
+use Rattle.cfs_meaning.specs.World.{Descriptor, File, Held, Queue, World, all_placed, core_in}
+use Rattle.cfs_meaning.specs.World.{descriptor_in, file_in, queue_in, with_descriptor}
+use Rattle.cfs_meaning.specs.World.{with_descriptors, with_queue}
+use Rattle.cfs_meaning.specs.Ways.{Changes, Fault, Halt, Mends, Now, Repeats, Says, Waits, Way}
+use Rattle.cfs_meaning.specs.Ways.{choose, done, each, end_with, give, known, refuse_if, steps}
+use Rattle.cfs_meaning.specs.Ways.{when, ◌>>=◌, ◌>>◌}
+use Rattle.cfs_meaning.specs.Inode.{Absent, Behind, Ready, Verdict, admit, admit_read, drop_read}
+use Rattle.cfs_meaning.specs.Inode.{is_append, run_job, serve, serve_verdict, settle, skip}
+use Rattle.cfs_meaning.specs.Inode.{unmapped, verdict}
 use Rattle.cfs_meaning.specs.Names.{ask_and_purge}
 
 -- ---- helping

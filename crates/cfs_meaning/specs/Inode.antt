@@ -1,6 +1,9 @@
 -- What is done to one file: each part makes its operations of devices, and its events of the file's
 -- core.
-use Rattle.std.specs.Prelude.{◌≡◌, Result, Ok, ℕ, ◌+◌, ◌-◌, ◌*◌, ◌==◌, Bool, true, false, not, ◌&&◌, ◌||◌, if◌then◌else◌, Option, Some, None, List, [], ◌∷◌, ◌++◌, length, map, filter, find, take, drop, get_or, replicate, count_by, is_none, is_some, unwrap_or}
+use Rattle.std.specs.Prelude.{◌≡◌, Result, Ok, ℕ, ◌+◌, ◌-◌, ◌*◌, ◌==◌, Bool, true, false, not, ◌&&◌}
+use Rattle.std.specs.Prelude.{◌||◌, if◌then◌else◌, Option, Some, None, List, [], ◌∷◌, ◌++◌, length}
+use Rattle.std.specs.Prelude.{map, filter, find, take, drop, get_or, replicate, count_by, is_none}
+use Rattle.std.specs.Prelude.{is_some, unwrap_or}
 use Rattle.std.specs.Option.{option_to_list}
 use Rattle.std.specs.List.{flat_map, list_any, range_with_len}
 use Rattle.cfs_file.specs.declared.entry.Entry.{Entry}
@@ -22,7 +25,9 @@ use Rattle.cfs_core.specs.declared.event.End.TheVariants as ends
 use Rattle.cfs_core.specs.declared.event.SizeEnd.{SizeEnd}
 use Rattle.cfs_core.specs.declared.event.SizeEnd.TheVariants as sizes
 use Rattle.cfs_core.specs.declared.inode_core.Core.{Core}
-use Rattle.cfs_core.specs.Words.{blocks_needed, end_in, has_block, is_live, is_on, is_unserved, is_waiting, payload_at, piece_in, positions, sized, start_in, start_of, track}
+use Rattle.cfs_core.specs.Words.{blocks_needed, end_in, has_block, is_live, is_on, is_unserved}
+use Rattle.cfs_core.specs.Words.{is_waiting, payload_at, piece_in, positions, sized, start_in}
+use Rattle.cfs_core.specs.Words.{start_of, track}
 use Rattle.cfs_core.specs.Jobs.{done_after, next_block, next_job}
 use Rattle.cfs_core.specs.Medium.{file, reads}
 use Rattle.cfs_core.specs.May.{is_sync_at, may, may_trim, span_now}
@@ -32,11 +37,13 @@ use Rattle.cfs_pmem.specs.WordOps.{persist, put}
 use Rattle.cfs_block.specs.BlockOps.{flush, get_bytes, put_bytes}
 use Rattle.cfs_medium.specs.Store.{tag_of}
 use Rattle.cfs_meaning.specs.Drive.{Block, Op, Word, content_at}
-use Rattle.cfs_meaning.specs.Steps.{gate_closed, gate_opened, marked, offset_set, payload_read, size_word, slot, tag_kept}
+use Rattle.cfs_meaning.specs.Steps.{gate_closed, gate_opened, marked, offset_set, payload_read}
+use Rattle.cfs_meaning.specs.Steps.{size_word, slot, tag_kept}
 use Rattle.cfs_meaning.specs.World.{Descriptor, File, Held, Queue, World, all_placed, block_of}
 use Rattle.cfs_meaning.specs.World.{core_in, devices_of, file_in, head_of, held_at, placed}
 use Rattle.cfs_meaning.specs.World.{with_core, with_descriptors, with_file, with_queue, without}
-use Rattle.cfs_meaning.specs.Ways.{Changes, Fault, Halt, Mends, Now, Tries, Way, done, each, end_with, give, steps, unless_fault, when, ◌>>=◌, ◌>>◌}
+use Rattle.cfs_meaning.specs.Ways.{Changes, Fault, Halt, Mends, Now, Tries, Way, done, each}
+use Rattle.cfs_meaning.specs.Ways.{end_with, give, steps, unless_fault, when, ◌>>=◌, ◌>>◌}
 
 -- An event comes to the core of a file. One that may not come has no way.
 pub data Comes (ino : ℕ) (e : Event) : World → Result (Unit {0}) Halt → World → Type 0 where

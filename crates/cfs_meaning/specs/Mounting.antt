@@ -1,5 +1,7 @@
 -- What a store says when it is mounted, the steps of a mount, and the world that stands behind it.
-use Rattle.std.specs.Prelude.{ℕ, ◌+◌, ◌-◌, ◌*◌, ◌/◌, ◌%◌, ◌==◌, Bool, false, not, ◌&&◌, ◌||◌, if◌then◌else◌, None, List, [], ◌∷◌, ◌++◌, length, map, filter, take, drop, get_or, replicate, nat_le}
+use Rattle.std.specs.Prelude.{ℕ, ◌+◌, ◌-◌, ◌*◌, ◌/◌, ◌%◌, ◌==◌, Bool, false, not, ◌&&◌, ◌||◌}
+use Rattle.std.specs.Prelude.{if◌then◌else◌, None, List, [], ◌∷◌, ◌++◌, length, map, filter, take}
+use Rattle.std.specs.Prelude.{drop, get_or, replicate, nat_le}
 use Rattle.std.specs.List.{flat_map, list_any, range_with_len}
 use Rattle.cfs_file.specs.declared.request.Request.{Request}
 use Rattle.cfs_file.specs.declared.request.Request.TheVariants as requests
@@ -22,8 +24,10 @@ use Rattle.cfs_image.specs.Layout.{queues_of}
 use Rattle.cfs_medium.specs.Store.{Store, stored_file, tag_of}
 use Rattle.cfs_meaning.specs.Drive.{Block, Drive, Op, content_at, words_at}
 use Rattle.cfs_meaning.specs.NameSteps.{new_order}
-use Rattle.cfs_meaning.specs.Steps.{gate_closed, journal_record, selector, size_word, slot, table_copy, tag_kept, word_kept, words_read}
-use Rattle.cfs_meaning.specs.World.{Caller, File, Names, Up, World, all_placed, empty_core, new_file, without_descriptors}
+use Rattle.cfs_meaning.specs.Steps.{gate_closed, journal_record, selector, size_word, slot}
+use Rattle.cfs_meaning.specs.Steps.{table_copy, tag_kept, word_kept, words_read}
+use Rattle.cfs_meaning.specs.World.{Caller, File, Names, Up, World, all_placed, empty_core}
+use Rattle.cfs_meaning.specs.World.{new_file, without_descriptors}
 use Rattle.cfs_meaning.specs.Inode.{part_read}
 use Rattle.cfs_meaning.specs.Ways.{Now, Way, each, steps, when, ◌>>=◌, ◌>>◌}
 

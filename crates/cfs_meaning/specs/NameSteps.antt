@@ -1,5 +1,6 @@
 -- Requests on names as steps of a tree and the grants that stand.
-use Rattle.std.specs.Prelude.{ℕ, ◌==◌, Bool, ◌&&◌, List, [], ◌∷◌, Option, Some, None, Result, Ok, Err, if◌then◌else◌, replicate}
+use Rattle.std.specs.Prelude.{ℕ, ◌==◌, Bool, ◌&&◌, List, [], ◌∷◌, Option, Some, None, Result, Ok}
+use Rattle.std.specs.Prelude.{Err, if◌then◌else◌, replicate}
 use Rattle.std.specs.List.{list_any}
 use Rattle.cfs_dir.specs.declared.change.Change.{Change}
 use Rattle.cfs_dir.specs.declared.change.Change.TheVariants.{Create, Remove}
@@ -12,7 +13,9 @@ use Rattle.cfs_requests.specs.declared.name_refusal.NameRefusal.{NameRefusal}
 use Rattle.cfs_requests.specs.declared.opening.Opening.{Opening}
 use Rattle.cfs_requests.specs.declared.opening.Opening.TheVariants.{Found, Made}
 use Rattle.cfs_requests.specs.Looks.{makes, moves, opens, removes, unlinks}
-use Rattle.cfs_requests.specs.Steps.{IsLegalOrder, NameEntry, NameRequest, Names, Step, closes_queue, makes_directory, moves_node, opens_file, removes_directory, stepped, unlinks_file}
+use Rattle.cfs_requests.specs.Steps.{IsLegalOrder, NameEntry, NameRequest, Names, Step}
+use Rattle.cfs_requests.specs.Steps.{closes_queue, makes_directory, moves_node, opens_file}
+use Rattle.cfs_requests.specs.Steps.{removes_directory, stepped, unlinks_file}
 
 -- a tree, the grants that stand, and the number of the next grant
 abbrev pub Order : Type 0

@@ -1,6 +1,8 @@
 -- What is done to the tree: a change is a record of the journal before it is one of the tree, and
 -- the lines of callers on names.
-use Rattle.std.specs.Prelude.{ℕ, ◌+◌, ◌==◌, Bool, true, false, not, ◌&&◌, if◌then◌else◌, Option, Some, None, List, [], ◌∷◌, ◌++◌, length, map, filter, find, get_or, nat_lt, is_none, is_some, unwrap_or}
+use Rattle.std.specs.Prelude.{ℕ, ◌+◌, ◌==◌, Bool, true, false, not, ◌&&◌, if◌then◌else◌, Option}
+use Rattle.std.specs.Prelude.{Some, None, List, [], ◌∷◌, ◌++◌, length, map, filter, find, get_or}
+use Rattle.std.specs.Prelude.{nat_lt, is_none, is_some, unwrap_or}
 use Rattle.std.specs.List.{flat_map, list_any, range_with_len}
 use Rattle.cfs_dir.specs.declared.change.Change.{Change}
 use Rattle.cfs_dir.specs.declared.change.Change.TheVariants as changes
@@ -9,17 +11,21 @@ use Rattle.cfs_dir.specs.Namespace.{is_directory}
 use Rattle.cfs_ckpt.specs.Stores.{free_copy, put_ops, select_ops, settle_ops, word_for}
 use Rattle.cfs_requests.specs.declared.name_refusal.NameRefusal.{NameRefusal}
 use Rattle.cfs_requests.specs.declared.name_refusal.NameRefusal.TheVariants as refusals
-use Rattle.cfs_requests.specs.Steps.{NameAnswer, NameEntry, NameRequest, Step}
+use Rattle.cfs_requests.specs.Steps.{NameAnswer, NameRequest, Step}
 use Rattle.cfs_requests.specs.Steps as names
 use Rattle.cfs_print.specs.declared.printed.Printed.{Printed}
-use Rattle.cfs_print.specs.declared.printed.Printed.TheVariants.{Made, Named, NoNumber, NoQueue, NoRecord, Opened, Refused, RefusedAt}
+use Rattle.cfs_print.specs.declared.printed.Printed.TheVariants.{Made, Named, NoNumber, NoQueue}
+use Rattle.cfs_print.specs.declared.printed.Printed.TheVariants.{NoRecord, Opened, Refused}
+use Rattle.cfs_print.specs.declared.printed.Printed.TheVariants.{RefusedAt}
 use Rattle.cfs_meaning.specs.Drive.{words_at}
 use Rattle.cfs_meaning.specs.Steps.{appended, on_tables, record_closed, selector}
 use Rattle.cfs_meaning.specs.NameSteps.{Order, changes_of, record_made, refusal_of, step_of}
 use Rattle.cfs_meaning.specs.NameSteps.{tree_of}
-use Rattle.cfs_meaning.specs.World.{Descriptor, File, Names, World, caller_in, is_in_tree, is_open, is_used, new_file, open_of, with_descriptors, with_names}
+use Rattle.cfs_meaning.specs.World.{Descriptor, File, Names, World, caller_in, is_in_tree, is_open}
+use Rattle.cfs_meaning.specs.World.{is_used, new_file, open_of, with_descriptors, with_names}
 use Rattle.cfs_meaning.specs.Inode.{purge}
-use Rattle.cfs_meaning.specs.Ways.{Changes, Now, Shrugs, Tries, Way, each, give, known, never, only_if, steps, unless_fault, when, ◌>>=◌, ◌>>◌}
+use Rattle.cfs_meaning.specs.Ways.{Changes, Now, Shrugs, Tries, Way, each, give, known, never}
+use Rattle.cfs_meaning.specs.Ways.{only_if, steps, unless_fault, when, ◌>>=◌, ◌>>◌}
 
 -- ---- journal and checkpoint
 

@@ -1,5 +1,6 @@
 -- What each line of a script does, what it answers, and what a whole script does.
-use Rattle.std.specs.Prelude.{ℕ, ◌+◌, Bool, true, false, ◌&&◌, if◌then◌else◌, Option, Some, None, Result, Ok, Err, List, [], ◌∷◌, ◌++◌, length, map, take, nat_lt}
+use Rattle.std.specs.Prelude.{ℕ, ◌+◌, Bool, true, false, ◌&&◌, if◌then◌else◌, Option, Some, None}
+use Rattle.std.specs.Prelude.{Result, Ok, Err, List, [], ◌∷◌, ◌++◌, length, map, take, nat_lt}
 use Rattle.cfs_cred.specs.declared.credential.Credential.{Credential}
 use Rattle.cfs_file.specs.declared.request.Request.TheVariants as requests
 use Rattle.cfs_file.specs.declared.sizes.TheConstants.{LONGEST_WRITE}
@@ -15,14 +16,20 @@ use Rattle.cfs_script.specs.declared.line.Line.{Line}
 use Rattle.cfs_print.specs.declared.out_line.OutLine.{OutLine}
 use Rattle.cfs_print.specs.declared.printed.Printed.{Printed}
 use Rattle.cfs_print.specs.declared.printed.Printed.TheVariants as answers
-use Rattle.cfs_requests.specs.Steps.{makes_directory, moves_node, opens_file, removes_directory, unlinks_file}
+use Rattle.cfs_requests.specs.Steps.{makes_directory, moves_node, opens_file, removes_directory}
+use Rattle.cfs_requests.specs.Steps.{unlinks_file}
 use Rattle.cfs_meaning.specs.Drive.{Drive}
 use Rattle.cfs_meaning.specs.Steps.{journal_record, selector, size_word, slot, table_copy}
-use Rattle.cfs_meaning.specs.World.{Down, Failed, Phase, Up, World, credential_in, with_drive, without_descriptors}
-use Rattle.cfs_meaning.specs.Ways.{Changes, Fault, Halt, Now, Says, Waits, Way, give, known, never, say, ◌>>=◌, ◌>>◌}
+use Rattle.cfs_meaning.specs.World.{Down, Failed, Phase, Up, World, credential_in, with_drive}
+use Rattle.cfs_meaning.specs.World.{without_descriptors}
+use Rattle.cfs_meaning.specs.Ways.{Changes, Fault, Halt, Now, Says, Waits, Way, give, known, never}
+use Rattle.cfs_meaning.specs.Ways.{say, ◌>>=◌, ◌>>◌}
 use Rattle.cfs_meaning.specs.Names.{ask, ask_and_purge, open_with, say_made, say_named}
-use Rattle.cfs_meaning.specs.Files.{close, find_room, ftruncate, has_no_power, list_queue, lseek, most_read, opened, opened_to_read, opened_to_write, post, pwrite, read_or_sync, room_or_full, serve_posted, write}
-use Rattle.cfs_meaning.specs.Workers.{apply_line, dispatch_line, drain, finish_line, settle_line, skip_line, trim_line, turn_line}
+use Rattle.cfs_meaning.specs.Files.{close, find_room, ftruncate, has_no_power, list_queue, lseek}
+use Rattle.cfs_meaning.specs.Files.{most_read, opened, opened_to_read, opened_to_write, post}
+use Rattle.cfs_meaning.specs.Files.{pwrite, read_or_sync, room_or_full, serve_posted, write}
+use Rattle.cfs_meaning.specs.Workers.{apply_line, dispatch_line, drain, finish_line, settle_line}
+use Rattle.cfs_meaning.specs.Workers.{skip_line, trim_line, turn_line}
 use Rattle.cfs_meaning.specs.Mounting.{live_count, mount_steps, mounted_world}
 
 -- ---- power and devices
@@ -69,7 +76,9 @@ crashed k drive = record {
   blocks = blocks_left (after_regions (pick_of k) drive.regions) drive.blocks;
 }
 
--- all that is not on a device is gone, but who the callers are
+-- The devices are as the crash leaves them, and nobody has a descriptor. The rest of the world
+-- stays for the laws to speak of: no line of a file or of the tree reaches it, and the next mount
+-- makes it anew.
 abbrev pub crash_in : ℕ → World → World
 crash_in k world = record world {
   drive = crashed k world.drive;

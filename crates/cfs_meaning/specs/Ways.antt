@@ -1,6 +1,7 @@
 -- How a line is put together of parts that are done one after another, each of which may end the
 -- line.
-use Rattle.std.specs.Prelude.{ℕ, suc, Bool, true, false, List, [], ◌∷◌, Option, Some, None, Result, Ok, Err}
+use Rattle.std.specs.Prelude.{ℕ, suc, Bool, true, false, List, [], ◌∷◌, Option, Some, None, Result}
+use Rattle.std.specs.Prelude.{Ok, Err}
 use Rattle.cfs_print.specs.declared.printed.Printed.{Printed}
 pub use Rattle.cfs_meaning.specs.declared.halt.Halt.{Halt}
 pub use Rattle.cfs_meaning.specs.declared.halt.Halt.TheVariants.{Fault, Waits, Says}

@@ -10,10 +10,14 @@ use Rattle.cfs_core.specs.May.{is_sync_at}
 use Rattle.cfs_sched.specs.declared.summary.Summary.{Summary}
 use Rattle.cfs_sched.specs.Choice.{urgency}
 use Rattle.cfs_print.specs.declared.printed.Printed.{Printed}
-use Rattle.cfs_print.specs.declared.printed.Printed.TheVariants.{Drained, Fine, Freed, Left, More, Nothing, Pending, Placed, Unfinished}
+use Rattle.cfs_print.specs.declared.printed.Printed.TheVariants.{Drained, Fine, Freed, Left, More}
+use Rattle.cfs_print.specs.declared.printed.Printed.TheVariants.{Nothing, Pending, Placed}
+use Rattle.cfs_print.specs.declared.printed.Printed.TheVariants.{Unfinished}
 use Rattle.cfs_meaning.specs.World.{File, World, all_placed, core_in, file_in, is_there, with_file}
-use Rattle.cfs_meaning.specs.Ways.{Changes, Now, Repeats, Way, choose, done, give, refuse_if, say, ◌>>=◌, ◌>>◌}
-use Rattle.cfs_meaning.specs.Inode.{Absent, Behind, Ready, Verdict, apply, dispatch, finish, job_at, left_at, run_job, settle, skip, trim, verdict, with_passed}
+use Rattle.cfs_meaning.specs.Ways.{Changes, Now, Repeats, Way, choose, done, give, refuse_if, say}
+use Rattle.cfs_meaning.specs.Ways.{◌>>=◌, ◌>>◌}
+use Rattle.cfs_meaning.specs.Inode.{Absent, Behind, Ready, Verdict, apply, dispatch, finish, job_at}
+use Rattle.cfs_meaning.specs.Inode.{left_at, run_job, settle, skip, trim, verdict, with_passed}
 
 -- ---- one step at a time
 

@@ -36,8 +36,8 @@ pub fn changes_make_steps()
     ensures { ChangesMakeSteps }
 {}
 
-/// Each open descriptor's grant stands in the table, at its queue and for its caller, so a close is
-/// never refused.
+/// Each open descriptor's grant stands in the table, at its queue and for its caller, and no second
+/// descriptor has the queue.
 pub fn open_files_are_granted()
     ensures { OpenFilesAreGranted }
 {}
@@ -62,7 +62,8 @@ pub fn answers_are_only()
     ensures { AnswersAreOnly }
 {}
 
-/// At the end of every run each line that helps no entry and makes no step of a job has an answer.
+/// At the end of every run of a store that was mounted, while the selector's word has room for one
+/// more change, each line that helps no entry and makes no step of a job has an answer.
 pub fn lines_have_answers()
     ensures { LinesHaveAnswers }
 {}
@@ -73,8 +74,7 @@ pub fn shown_files_recover()
     ensures { ShownFilesRecover }
 {}
 
-/// Lines without a step of a device keep a world shown, and so do lines that read with nothing in
-/// their way, and the steps of a job.
+/// The lines of `keeps_shown`, where they suit (`Suits`), keep a mounted world shown.
 pub fn lines_keep_shown()
     ensures { LinesKeepShown }
 {}

@@ -1,15 +1,12 @@
 -- What the checks of an old image say.
 use Rattle.std.proofs.Common.{ℕ, ◌+◌, ◌*◌, ◌≤◌, ◌≡◌, ◌==◌, nat_le, if◌then◌else◌, Bool, true, false}
-use Rattle.std.proofs.Common.{List, [], ◌∷◌, length, drop, get_or, Some, None, refl, arith}
+use Rattle.std.proofs.Common.{List, ◌∷◌, length, drop, get_or, Some, None, refl, arith}
 use Rattle.std.proofs.lemmas.Bool.Decides.{nat_tests}
 use Rattle.cfs_image.specs.declared.layout.TheConstants.{NAME}
-use Rattle.cfs_image.specs.declared.refusal.ImageRefusal.{ImageRefusal}
-use Rattle.cfs_image.specs.declared.refusal.ImageRefusal.TheVariants.{Damaged, NoMemory}
 use Rattle.cfs_image.specs.declared.version.Version.TheVariants.{First}
 use Rattle.cfs_image.specs.Image.{word_at}
-use Rattle.cfs_image.specs.Versions.{image_len_in}
-use Rattle.cfs_image.specs.Checks.{Check, Damage, NamesFirst, check, checks_of, damage_of, due_len}
-use Rattle.cfs_move.specs.Refusals.{IsOldSound, NamesOldDamage}
+use Rattle.cfs_image.specs.Checks.{Check, Damage, check, checks_of, damage_of, due_len}
+use Rattle.cfs_move.specs.Refusals.{IsOldSound}
 
 -- a check that holds, and those behind it
 passed : (check : Check) (rest : List Check) → damage_of (check ∷ rest) ≡ None →
@@ -59,9 +56,3 @@ old_headed bytes sound =
       most_queues = grind (arith, nat_tests, most_queues.0);
       size = grind (arith, nat_tests, size.0);
     }
-
--- a refusal of the checks names the damage of an old image
-pub names_old : (bytes : List ℕ) (refusal : ImageRefusal) → NamesFirst First bytes refusal →
-    NamesOldDamage bytes refusal
-names_old bytes (Damaged offset found against) names = names
-names_old bytes NoMemory names = absurd names

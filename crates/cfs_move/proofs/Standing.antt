@@ -7,7 +7,7 @@ use Rattle.std.proofs.lemmas.List.{append-nil, drop_at, drop-drop, length-append
 use Rattle.std.proofs.lemmas.List.{length-take-le, take_at}
 use Rattle.byteorder.specs.Endian.{little_bytes, little_number}
 use Rattle.byteorder.specs.Numbers.{length-bytes_low_first, little_number-reads_back}
-use Rattle.cfs_image.specs.declared.layout.TheConstants.{NAME, VERSION}
+use Rattle.cfs_image.specs.declared.layout.TheConstants.{VERSION}
 use Rattle.cfs_image.specs.declared.version.Version.TheVariants.{First}
 use Rattle.cfs_image.specs.Checks.{IsSound}
 use Rattle.cfs_image.specs.Image.{word_at}

@@ -1,5 +1,5 @@
 -- Which image of version 1 is refused.
-use Rattle.std.specs.Prelude.{ℕ, ◌≡◌, List, None}
+use Rattle.std.specs.Prelude.{ℕ, List}
 use Rattle.cfs_image.specs.declared.refusal.ImageRefusal.{ImageRefusal}
 use Rattle.cfs_image.specs.declared.refusal.ImageRefusal.TheVariants.{Damaged, NoMemory}
 use Rattle.cfs_image.specs.declared.version.Version.TheVariants.{First}
@@ -9,8 +9,9 @@ use Rattle.cfs_image.specs.Checks.{IsSoundIn, NamesFirst}
 abbrev pub IsOldSound : List ℕ → Type 0
 IsOldSound bytes = IsSoundIn First bytes
 
--- the refusal names the damage of the first check of version 1 that fails, unless memory lacked
+-- The refusal names the damage of the first check of version 1 that fails. Want of memory comes
+-- where all hold.
 abbrev pub NamesOldDamage : List ℕ → ImageRefusal → Type 0
 NamesOldDamage bytes (Damaged offset found against) =
     NamesFirst First bytes (Damaged offset found against)
-NamesOldDamage bytes NoMemory = Unit {0}
+NamesOldDamage bytes NoMemory = IsOldSound bytes

@@ -12,7 +12,10 @@ use cfs_image::{ImageRefusal, VERSION, Version, check_header, image_len};
 use std::alloc::Global;
 
 /// How many records a journal has.
-const RECORDS: usize = 64;
+const JOURNAL_RECORDS: usize = 64;
+
+/// Where the journal begins in an image of either version, in bytes.
+const JOURNAL_AT: usize = 49_208;
 
 /// How many bytes a journal record of version 1 has.
 const OLD_RECORD_LEN: usize = 120;
@@ -22,7 +25,7 @@ const OLD_RECORD_LEN: usize = 120;
 /// changes (own).
 ///
 /// `Damaged` names the first check of version 1 that fails, of the length and the header, and comes
-/// where one does (own).
+/// exactly where one does: want of memory is answered for sound images alone (own).
 pub fn upgrade_bytes(alloc: Global, bytes: &[u8]) -> Result<Bytes, ImageRefusal>
     ensures upgraded { IfOk result (λ image. image ≡ upgraded bytes.now) }
     ensures old_sound { OnOk result (IsOldSound bytes.now) }
@@ -37,17 +40,18 @@ pub fn upgrade_bytes(alloc: Global, bytes: &[u8]) -> Result<Bytes, ImageRefusal>
     image.extend_from_slice(&VERSION.to_le_bytes())?;
     image.extend_from_slice(&bytes[16..old_record_at(0)])?;
     push_records(&mut image, bytes)?;
-    image.extend_from_slice(&bytes[old_record_at(RECORDS)..])?;
+    image.extend_from_slice(&bytes[old_record_at(JOURNAL_RECORDS)..])?;
     Ok(Bytes::from_vec(image))
 }
 
 /// Writes the journal records of an image of version 1 behind the bytes that are there, each with
 /// a word 0 behind it.
 fn push_records(image: &mut Vec<u8>, old: &[u8]) -> Result<(), NoMemory>
-    requires { journal_at_in First RECORDS ≤ length old.now }
-    ensures { OnOk result (image.new.items ≡ image.old.items ++ records_moved old.now RECORDS) }
+    requires { journal_at_in First JOURNAL_RECORDS ≤ length old.now }
+    ensures { OnOk result
+        (image.new.items ≡ image.old.items ++ records_moved old.now JOURNAL_RECORDS) }
 {
-    for position in 0..RECORDS {
+    for position in 0..JOURNAL_RECORDS {
         let from = old_record_at(position);
         image.extend_from_slice(&old[from..from + OLD_RECORD_LEN])?;
         image.extend_from_slice(&[0; 8])?;
@@ -57,8 +61,8 @@ fn push_records(image: &mut Vec<u8>, old: &[u8]) -> Result<(), NoMemory>
 
 /// Where the journal record at a position begins in an image of version 1.
 fn old_record_at(position: usize) -> usize
-    requires { position ≤ RECORDS }
+    requires { position ≤ JOURNAL_RECORDS }
     ensures { result ≡ journal_at_in First position }
 {
-    49_208 + OLD_RECORD_LEN * position
+    JOURNAL_AT + OLD_RECORD_LEN * position
 }

@@ -1,9 +1,8 @@
 -- How calls of the program end.
-use Rattle.std.proofs.Common.{◌≡◌, ◌⊎◌, ◌≤◌, length, inl, inr, ℕ, Some, None, List, [], refl, sym}
-use Rattle.std.proofs.Common.{subst, true}
+use Rattle.std.proofs.Common.{◌≡◌, ◌⊎◌, ◌≤◌, length, inl, inr, ℕ, Some, None, List, []}
+use Rattle.std.proofs.Common.{refl, subst, sym, true}
 use Rattle.std.specs.declared.option.Option.{Option}
-use Rattle.std.specs.Io.KnownBytes.{Appends, Consumes, IsAtEnd}
-use Rattle.std.proofs.lemmas.List.{append-nil}
+use Rattle.std.specs.Io.KnownBytes.{Consumes, IsAtEnd}
 use Rattle.cfs_file.specs.declared.entry.Entry.{Entry}
 use Rattle.cfs_io.specs.declared.script.TheConstants.{LONGEST_SCRIPT}
 use Rattle.cfs_io.specs.Files.{Files}
@@ -18,12 +17,14 @@ use Rattle.cfs_top.specs.declared.status.Status.{Status}
 use Rattle.cfs_top.specs.declared.status.Status.TheVariants.{Done, Usage, Script, Image, Input}
 use Rattle.cfs_top.specs.declared.status.Status.TheVariants.{Output, Shelf, NoMemory, Absent}
 use Rattle.cfs_top.specs.Command.{IsMkfs, IsUpgrade}
-use Rattle.cfs_top.specs.Outside.{ArePlay, Ends, IsDue, IsHeeded, LeavesShelf, Makes, PlayIsDue}
+use Rattle.cfs_top.specs.Outside.{ArePlay, Ends, IsDue, IsHeeded}
+use Rattle.cfs_top.specs.Outside.{LeavesShelf, Makes, PlayIsDue}
 use Rattle.cfs_top.specs.Outside.{SaveNone, Says, Shelved, UpgradeIsDue, Upgrades, Writes}
 use Rattle.cfs_top.specs.Outside.{WritesAll, WritesFront}
 use Rattle.cfs_top.specs.Play.{PlaysAll, PlaysFront, Run}
 use Rattle.cfs_top.specs.Text.{texts}
 use Rattle.cfs_top.proofs.Orders.{KeepsOrder-run}
+use Rattle.cfs_top.proofs.Runs.{Appends-none}
 
 -- all of a text that is due was written
 writes_all : (due : Status → List ℕ → Type 0) (status : Status) (before after : Option (List ℕ)) → IsHeeded status →
@@ -148,11 +149,6 @@ output_input same = cc
 pub Consumes-none : (left : Option (List ℕ)) → Consumes left left []
 Consumes-none None = tt
 Consumes-none (Some bytes) = refl
-
--- nothing was written
-pub Appends-none : (written : Option (List ℕ)) → Appends written written []
-Appends-none None = tt
-Appends-none (Some bytes) = sym (append-nil bytes)
 
 -- a call that made a store and wrote nothing ended so
 pub mkfs_ends : (status : Status) (words : List (List ℕ)) (image : List ℕ) (blocks queues : ℕ)
@@ -293,11 +289,3 @@ said_upgrades result status text before after image name old new made same (inl 
     subst (λ s. Upgrades s image name old new) (sym all.0) made
 said_upgrades result status text before after image name old new made same (inr front) =
     subst (λ s. Upgrades s image name old new) (sym front.0) same
-
-pub refused_upgrades : (result : Status) (text : List ℕ) (before after : Option (List ℕ))
-    (image name : List ℕ) (old new : Shelved) →
-    new.files ≡ old.files → Refuses result text before after → Upgrades result image name old new
-refused_upgrades result text before after image name old new same (inl none) =
-    subst (λ s. Upgrades s image name old new) (sym none.0) same
-refused_upgrades result text before after image name old new same (inr said) =
-    said_upgrades result Image text before after image name old new same same said

@@ -1,5 +1,5 @@
 -- A run keeps the order of its lines.
-use Rattle.std.proofs.Common.{◌≡◌, ℕ, ◌+◌, ◌≤◌, ◌==◌, inl, inr, Some, List, [], ◌∷◌, ◌++◌, length, map, take, max, arith, refl, sym, ap, ◌∙◌, append_assoc, append-nil, length-append, Bool, true, false, cond}
+use Rattle.std.proofs.Common.{◌≡◌, ℕ, ◌+◌, ◌≤◌, ◌==◌, Some, List, [], ◌∷◌, ◌++◌, length, map, take, max, arith, refl, sym, ap, ◌∙◌, append_assoc, append-nil, length-append, Bool, true, false, cond}
 use Rattle.std.specs.declared.option.Option.{Option}
 use Rattle.std.specs.Option.{option_to_list}
 use Rattle.std.specs.Prelude.{◌&&◌, nat_le}

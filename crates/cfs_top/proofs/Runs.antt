@@ -5,7 +5,7 @@ use Rattle.std.specs.Option.{option_to_list}
 use Rattle.std.specs.Prelude.{Result, Ok, Err, OnErr}
 use Rattle.std.specs.Io.KnownBytes.{Appends}
 use Rattle.std.proofs.KnownBytes.{Appends-trans}
-use Rattle.std.proofs.Math.Seq.{take-append_seam, take-append-add}
+use Rattle.std.proofs.Math.Seq.{take-append-add}
 use Rattle.std.proofs.lemmas.List.{take-append-le, take_more, take-append-drop}
 use Rattle.cfs_io.specs.Streams.{AppendsFront}
 use Rattle.cfs_file.specs.declared.entry.Entry.{Entry}
@@ -71,6 +71,7 @@ pub on_err : {T E : Type 0} (result : Result T E) (P : Type 0) → P → OnErr r
 on_err (Ok x) P p = tt
 on_err (Err e) P p = p
 
+-- nothing was written
 pub Appends-none : (written : Option (List ℕ)) → Appends written written []
 Appends-none None = tt
 Appends-none (Some bytes) = sym (append-nil bytes)
@@ -78,11 +79,6 @@ Appends-none (Some bytes) = sym (append-nil bytes)
 -- a front of nothing
 pub AppendsFront-none : (written : Option (List ℕ)) (text : List ℕ) → AppendsFront written written text
 AppendsFront-none written text = (0, omega arith, Appends-none written)
-
--- all of a text is a front of it with more behind
-pub AppendsFront-all : (before after : Option (List ℕ)) (text more : List ℕ) → Appends before after text → AppendsFront before after (text ++ more)
-AppendsFront-all before after text more all =
-    (length text, omega (arith, length-append text more), rw (take-append_seam text more) all)
 
 -- a front of a text is one of the text with more behind
 pub AppendsFront-more : (before after : Option (List ℕ)) (text more : List ℕ) → AppendsFront before after text → AppendsFront before after (text ++ more)
@@ -130,10 +126,6 @@ PlaysAll-silent old new line written step = record {
   run = (None, (new, ([], (step, ((refl, refl), refl)))));
   written = Appends-none written;
 }
-
--- no line
-pub PlaysAll-none : (old : List Entry) (written : Option (List ℕ)) → PlaysAll old [] old written written
-PlaysAll-none old written = record { outs = []; run = (refl, refl); written = Appends-none written }
 
 -- lines after lines
 pub PlaysAll-append : (old mid new : List Entry) (xs ys : List Line) (before between after : Option (List ℕ)) →

@@ -5,7 +5,8 @@ use Rattle.std.specs.Char.{is_ascii_alphanumeric}
 use Rattle.std.specs.List.{list_all}
 use Rattle.std.specs.Fmt.{decimal}
 use Rattle.std.specs.Str.{bytes_eq}
-use Rattle.cfs_image.specs.declared.layout.TheConstants.{FEWEST_BLOCKS, FEWEST_QUEUES, MOST_BLOCKS, MOST_QUEUES}
+use Rattle.cfs_image.specs.declared.layout.TheConstants.{FEWEST_BLOCKS, FEWEST_QUEUES, MOST_BLOCKS}
+use Rattle.cfs_image.specs.declared.layout.TheConstants.{MOST_QUEUES}
 
 -- a letter, a digit, `.`, `_`, `-` or `/`
 abbrev pub is_image_byte : ℕ → Bool

@@ -79,14 +79,8 @@ IsRefused left rest = MoreCame left rest LONGEST_SCRIPT ⊎ (IsNone left rest �
 -- the status that `play` is to end with, and the text that it is to write
 abbrev pub PlayIsDue : Option (List ℕ) → Option (List ℕ) → Status → List ℕ → Type 0
 PlayIsDue left rest Done text = PlaysScript left rest text
-PlayIsDue left rest Usage text = ⊥
 PlayIsDue left rest Script text = IsRefused left rest × (text ≡ refused_text)
-PlayIsDue left rest Image text = ⊥
-PlayIsDue left rest Input text = ⊥
-PlayIsDue left rest Output text = ⊥
-PlayIsDue left rest Shelf text = ⊥
-PlayIsDue left rest NoMemory text = ⊥
-PlayIsDue left rest Absent text = ⊥
+PlayIsDue left rest other text = ⊥
 
 -- there is a file of this name, an image of version 1 that passes its checks
 pub record IsOldImage (files : Option Files) (image bytes : List ℕ) : Type 0 where
@@ -104,14 +98,9 @@ pub record IsDamaged (files : Option Files) (image text : List ℕ) : Type 0 whe
 -- the status that `upgrade` of an image is to end with, and the text that it is to write
 abbrev pub UpgradeIsDue : Option Files → List ℕ → Status → List ℕ → Type 0
 UpgradeIsDue files image Done text = ((bytes : List ℕ) × IsOldImage files image bytes) × (text ≡ [])
-UpgradeIsDue files image Usage text = ⊥
-UpgradeIsDue files image Script text = ⊥
 UpgradeIsDue files image Image text = IsDamaged files image text
-UpgradeIsDue files image Input text = ⊥
-UpgradeIsDue files image Output text = ⊥
-UpgradeIsDue files image Shelf text = ⊥
-UpgradeIsDue files image NoMemory text = ⊥
 UpgradeIsDue files image Absent text = Misses files image × (text ≡ absent_text)
+UpgradeIsDue files image other text = ⊥
 
 -- the words are `play` of some image
 abbrev pub ArePlay : List (List ℕ) → Type 0
@@ -164,16 +153,13 @@ pub record WritesAll (due : Status → List ℕ → Type 0) (status : Status)
   pub written : Appends before after text
 
 -- what was written, by the status
-abbrev pub Writes : (Status → List ℕ → Type 0) → Status → Option (List ℕ) → Option (List ℕ) → Type 0
-Writes due Done before after = WritesAll due Done before after
-Writes due Usage before after = WritesAll due Usage before after
-Writes due Script before after = WritesAll due Script before after
-Writes due Image before after = WritesAll due Image before after
+abbrev pub Writes : (Status → List ℕ → Type 0) → Status → Option (List ℕ) → Option (List ℕ)
+    → Type 0
 Writes due Input before after = after ≡ before
 Writes due Output before after = WritesFront due before after
 Writes due Shelf before after = after ≡ before
 Writes due NoMemory before after = (after ≡ before) ⊎ WritesFront due before after
-Writes due Absent before after = WritesAll due Absent before after
+Writes due other before after = WritesAll due other before after
 
 -- `mkfs` is to save these bytes under this name: the image of a new store
 abbrev pub IsNew : List (List ℕ) → List ℕ → List ℕ → Type 0
@@ -215,15 +201,9 @@ pub record FailsToSave (words : List (List ℕ)) (before after : Shelved) : Type
 abbrev pub LeavesShelf : Status → List (List ℕ) → Shelved → Shelved → Type 0
 LeavesShelf Done words before after =
     Saves words before.files after.files ⊎ (SaveNone words × (after.files ≡ before.files))
-LeavesShelf Usage words before after = after.files ≡ before.files
-LeavesShelf Script words before after = after.files ≡ before.files
-LeavesShelf Image words before after = after.files ≡ before.files
-LeavesShelf Input words before after = after.files ≡ before.files
-LeavesShelf Output words before after = after.files ≡ before.files
 LeavesShelf Shelf words before after =
     (AreUpgrade words × LoadFails before after) ⊎ FailsToSave words before after
-LeavesShelf NoMemory words before after = after.files ≡ before.files
-LeavesShelf Absent words before after = after.files ≡ before.files
+LeavesShelf other words before after = after.files ≡ before.files
 
 -- A call with these words ended so: what it wrote is what is due, and the shelf is as the status
 -- says. Only `play` reads the source.
@@ -239,14 +219,9 @@ pub record Ends (status : Status) (words : List (List ℕ)) (before after : Outs
 abbrev pub Makes : Status → List ℕ → ℕ → ℕ → Shelved → Shelved → Type 0
 Makes Done image blocks queues before after =
     Saved before.files after.files image (new_image_of blocks queues)
-Makes Usage image blocks queues before after = ⊥
-Makes Script image blocks queues before after = ⊥
-Makes Image image blocks queues before after = ⊥
-Makes Input image blocks queues before after = ⊥
-Makes Output image blocks queues before after = ⊥
 Makes Shelf image blocks queues before after = SaveFails image before after
 Makes NoMemory image blocks queues before after = after.files ≡ before.files
-Makes Absent image blocks queues before after = ⊥
+Makes other image blocks queues before after = ⊥
 
 -- what an image became under a new name
 pub record Renews (image name : List ℕ) (old new : Option Files) : Type 0 where
@@ -265,25 +240,18 @@ abbrev pub Upgrades : Status → List ℕ → List ℕ → Shelved → Shelved �
 Upgrades Done image name before after = Renews image name before.files after.files
 Upgrades Usage image name before after = ⊥
 Upgrades Script image name before after = ⊥
-Upgrades Image image name before after = after.files ≡ before.files
 Upgrades Input image name before after = ⊥
-Upgrades Output image name before after = after.files ≡ before.files
 Upgrades Shelf image name before after =
     LoadFails before after ⊎ FailsToRenew image name before after
-Upgrades NoMemory image name before after = after.files ≡ before.files
-Upgrades Absent image name before after = after.files ≡ before.files
+Upgrades other image name before after = after.files ≡ before.files
 
 -- the call ended with the status that was due
 abbrev pub IsHeeded : Status → Type 0
-IsHeeded Done = Unit {0}
-IsHeeded Usage = Unit {0}
-IsHeeded Script = Unit {0}
-IsHeeded Image = Unit {0}
 IsHeeded Input = ⊥
 IsHeeded Output = ⊥
 IsHeeded Shelf = ⊥
 IsHeeded NoMemory = ⊥
-IsHeeded Absent = Unit {0}
+IsHeeded other = Unit {0}
 
 -- the text was written, which ends with this status, or a front of it, which ends with a fault
 abbrev pub Says : Status → Status → List ℕ → Option (List ℕ) → Option (List ℕ) → Type 0

@@ -1,5 +1,6 @@
 -- Which scripts the program serves yet: those of one caller and one file.
-use Rattle.std.specs.Prelude.{◌≡◌, ℕ, ◌+◌, ◌==◌, ◌&&◌, not, nat_le, Bool, true, false, List, [], ◌∷◌, length}
+use Rattle.std.specs.Prelude.{ℕ, ◌+◌, ◌==◌, ◌&&◌, not, nat_le, Bool, true, false, List, []}
+use Rattle.std.specs.Prelude.{◌∷◌, length}
 use Rattle.cfs_dir.specs.Path.{same_names}
 use Rattle.cfs_words.specs.declared.flags.Flags.{Flags}
 use Rattle.cfs_script.specs.declared.form.Form.{Form}

@@ -2,7 +2,8 @@
 
 ghost use Rattle.std.specs.Prelude.{◌≡◌, ◌≢◌, ◌≤◌, List, ℕ};
 ghost use Rattle.std.specs.declared.option.Option.{Option};
-ghost use Rattle.cfs_image.specs.declared.layout.TheConstants.{FEWEST_BLOCKS, FEWEST_QUEUES, MOST_BLOCKS, MOST_QUEUES};
+ghost use Rattle.cfs_image.specs.declared.layout.TheConstants.{FEWEST_BLOCKS, FEWEST_QUEUES};
+ghost use Rattle.cfs_image.specs.declared.layout.TheConstants.{MOST_BLOCKS, MOST_QUEUES};
 ghost use Rattle.cfs_pmem.specs.Faults.{Rose};
 ghost use Rattle.cfs_io.specs.Streams.{SomeCame};
 ghost use Rattle.cfs_top.specs.Outside.{Ends, Makes, PlayIsDue, Writes};
@@ -30,7 +31,8 @@ use std::alloc::Global;
 /// script of more than one caller and the file `/a` is refused yet.
 ///
 /// `upgrade IMAGE NEW` saves what the image of version 1 becomes as an image of the present
-/// version, under another name. It reads no input, and the old image stays as it was.
+/// version, under another name. It reads no input, and the old image stays as it was. Two spellings
+/// of one path count as two names; then the new image replaces the old one.
 pub fn crossfs_steady<S: Source, K: Sink, H: Shelf>(
     alloc: Global,
     words: &[Word],

@@ -1,5 +1,5 @@
-//! The program `crossfs`: the real streams and files and the words of the command line, handed to the
-//! top call.
+//! The program `crossfs`: the real streams and files and the words of the command line, handed to
+//! the top call.
 #![tactic(auto)]
 
 use cfs_file::{NoMemory, Word};

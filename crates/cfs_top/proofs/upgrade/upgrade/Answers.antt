@@ -1,7 +1,7 @@
 use Rattle.std.proofs.Common.{[], refl, subst}
 use Rattle.cfs_move.specs.Refusals.{IsOldSound, NamesOldDamage}
-use Rattle.cfs_top.proofs.Ends.{Appends-none, refused_upgrades, refused_writes, said_upgrades}
-use Rattle.cfs_top.proofs.Ends.{said_writes}
+use Rattle.cfs_top.proofs.Ends.{refused_writes, said_upgrades, said_writes}
+use Rattle.cfs_top.proofs.Runs.{Appends-none}
 use Rattle.cfs_top.proofs.upgrade.upgrade.Goals as goal
 
 pub returns-in-Err-Absent-clause-writes : goal.returns-in-Err-Absent-clause-writes
