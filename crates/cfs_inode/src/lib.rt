@@ -1,6 +1,7 @@
 //! The state of one inode with its devices.
 #![tactic(auto)]
 
+mod admission;
 mod admit;
 mod admit_answer;
 mod answers;
@@ -33,6 +34,7 @@ mod telling;
 mod trim;
 mod trim_answer;
 
+pub use admission::Admission;
 pub use admit_answer::AdmitAnswer;
 pub use answers::{CloseAnswer, ServeAnswer};
 pub use dispatch_answer::DispatchAnswer;
