@@ -20,16 +20,12 @@ use Rattle.cfs_tracker.specs.Finish.{IsOut, applied, applied_entry, blocks_in, b
 use Rattle.cfs_tracker.specs.Finish.{done_with, home, is_last, is_last_of, more, more_entry}
 use Rattle.cfs_tracker.specs.Finish.{number_of, put_back, retired, size_after, size_unsure, span_in}
 use Rattle.cfs_tracker.specs.View.{TrackerView, doing, entry_at, is_at, with_entry, without}
-use Rattle.cfs_inode.specs.Backs.{tile_back, tile_from}
+use Rattle.cfs_inode.specs.Backs.{CameBack, tile_back, tile_from, told_tile}
 use Rattle.cfs_inode.specs.View.{Held, told, told_cell, told_doing, told_entry}
 use Rattle.cfs_inode.proofs.JobTells.{next-told, set-told}
 use Rattle.cfs_inode.proofs.Tells.{at-told, with-told, without-told}
 
 -- ---- the job's blocks
-
-abbrev pub told_tile : {B C : Type 0} → (B → C) → Option (Tile B) → Option (Tile C)
-told_tile tell None = None
-told_tile tell (Some tile) = Some (record { block = tile.block; home = tell tile.home })
 
 pub tile-told : {B : Type 0} (bytes : B → Seen BlockStep) (number : B → ℕ)
     (tile : Option (JobTile B)) →
@@ -251,14 +247,6 @@ told-more live doubt block view place slots first second =
 alike : {A B C D X : Type 0} (f : A → B → C → D → X) (a one : A) (b two : B) (c three : C)
     (d four : D) → a ≡ one → b ≡ two → c ≡ three → d ≡ four → f a b c d ≡ f one two three four
 alike f a one b two c three d four i j k l = cc
-
--- a job's place, slots and blocks, as the tracker takes them back
-pub record CameBack {S T B C : Type 0} (live : S → T) (block : B → C) (place : ℕ) (slots : S)
-    (first second : Option (Tile B)) (own : ℕ) (held : T) (one two : Option (Tile C)) : Type 0 where
-  pub place_is : place ≡ own
-  pub slots_are : live slots ≡ held
-  pub first_is : told_tile block first ≡ one
-  pub second_is : told_tile block second ≡ two
 
 pub put-back-is : {S D B T E C : Type 0} (live : S → T) (doubt : D → E) (block : B → C)
     (view now : TrackerView S D B) (place own : ℕ) (slots : S) (held : T)

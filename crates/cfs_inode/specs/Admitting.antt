@@ -16,7 +16,7 @@ use Rattle.cfs_tracker.specs.Admit.{bare_needed, long_after}
 use Rattle.cfs_inode.specs.declared.admit_answer.AdmitAnswer.{AdmitAnswer}
 use Rattle.cfs_inode.specs.declared.admit_answer.AdmitAnswer.TheVariants as answers
 use Rattle.cfs_inode.specs.Covering.{MarksCovered, tried_events}
-use Rattle.cfs_inode.specs.Ends.{CloseEnd, Settles, closed, failed, nothing, settle_events}
+use Rattle.cfs_inode.specs.Ends.{CloseEnd, Settles, failed, nothing, settle_events}
 use Rattle.cfs_inode.specs.Makes.{CallMakes}
 use Rattle.cfs_inode.specs.Mapping.{MapsBlocks, tag_events}
 use Rattle.cfs_inode.specs.Opening.{IsNext, Opens}

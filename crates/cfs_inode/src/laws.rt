@@ -3,13 +3,12 @@
 
 ghost use Rattle.cfs_inode.specs.Knows.{JobsAreOut, StandingAreReady, TakenAreOut};
 
-/// What `dispatch` asks for holds of each state that stands, where no block is in the caller's
-/// hands.
+/// What `dispatch` asks for holds of each state that stands.
 pub fn standing_are_ready()
     ensures { StandingAreReady }
 {}
 
-/// What `finish` and `put_back` ask for holds of each job that a state has out.
+/// What `finish` and `put_back` ask for of a job holds of each that a state has out.
 pub fn jobs_are_out()
     ensures { JobsAreOut }
 {}

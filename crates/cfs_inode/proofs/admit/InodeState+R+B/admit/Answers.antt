@@ -1,4 +1,4 @@
-use Rattle.std.proofs.Common.{rules, ◌≡◌, ◌∙◌, ◌≤◌, ◌<◌, ◌+◌, ap, arith, length, map, None, subst}
+use Rattle.std.proofs.Common.{rules, ◌≡◌, ◌∙◌, ◌≤◌, ◌<◌, ◌+◌, ap, arith, length, subst}
 use Rattle.std.proofs.Common.{sym, ℕ}
 use Rattle.std.specs.Prelude.{vec_capacity, vec_len}
 use Rattle.std.proofs.lemmas.List.{length-map}
@@ -6,7 +6,7 @@ use Rattle.std.specs.Option.{option_map}
 use Rattle.cfs_file.specs.declared.sizes.TheConstants.{LONGEST_FILE}
 use Rattle.cfs_file.specs.Span.{span}
 use Rattle.cfs_pmem.specs.Images.{words_of}
-use Rattle.cfs_slot.specs.Regions.{of_slots, of_staged}
+use Rattle.cfs_slot.specs.Regions.{of_staged}
 use Rattle.cfs_slot.specs.Words.{grant_of, ino_of}
 use Rattle.cfs_tracker.specs.Admit.{bare_needed, long_after}
 use Rattle.cfs_tracker.specs.View.{view_of}
@@ -17,7 +17,7 @@ use Rattle.cfs_inode.specs.Ends.{CloseEnd, Settles, end_of, nothing, settle_even
 use Rattle.cfs_inode.specs.Makes.{CallMakes}
 use Rattle.cfs_inode.specs.Placing.{staged_seens}
 use Rattle.cfs_inode.specs.Tagging.{stock_of}
-use Rattle.cfs_inode.specs.View.{StateView, seens_of, state_view, told_doubt}
+use Rattle.cfs_inode.specs.View.{seens_of, state_view, told_doubt}
 use Rattle.cfs_inode.proofs.Admittings.{admission-few, admission-long, admission-settles}
 use Rattle.cfs_inode.proofs.Admittings.{admission-unsettled, ill-settled, long-enough}
 use Rattle.cfs_inode.proofs.Admittings.{settle-keeps, too-long, well-settled}
