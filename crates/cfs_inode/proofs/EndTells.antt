@@ -2,6 +2,7 @@
 use Rattle.std.proofs.Common.{◌≡◌, ◌∙◌, ◌||◌, ap, inl, inr, is_none, List, [], ◌∷◌, map, Option}
 use Rattle.std.proofs.Common.{None, Some, refl, subst, sym, true, false, ℕ, Bool}
 use Rattle.std.proofs.lemmas.Bool.{cases_Bool}
+use Rattle.std.proofs.lemmas.List.{map-set}
 use Rattle.std.specs.Option.{option_map}
 use Rattle.cfs_core.specs.Words.{sized}
 use Rattle.cfs_pmem.specs.Images.{Seen}
@@ -22,7 +23,7 @@ use Rattle.cfs_tracker.specs.Finish.{number_of, put_back, retired, size_after, s
 use Rattle.cfs_tracker.specs.View.{TrackerView, doing, entry_at, is_at, with_entry, without}
 use Rattle.cfs_inode.specs.Backs.{CameBack, tile_back, tile_from, told_tile}
 use Rattle.cfs_inode.specs.View.{Held, told, told_cell, told_doing, told_entry}
-use Rattle.cfs_inode.proofs.JobTells.{next-told, set-told}
+use Rattle.cfs_inode.proofs.JobTells.{next-told}
 use Rattle.cfs_inode.proofs.Tells.{at-told, with-told, without-told}
 
 -- ---- the job's blocks
@@ -41,7 +42,8 @@ number-told tell (Some tile) = refl
 home-told : {B C : Type 0} (tell : B → C) (tile : Option (Tile B)) (cells : List (Cell B)) →
     map (told_cell tell) (home tile cells) ≡ home (told_tile tell tile) (map (told_cell tell) cells)
 home-told tell None cells = refl
-home-told tell (Some tile) cells = set-told tell cells tile.block (kinds.Home tile.home)
+home-told tell (Some tile) cells =
+    map-set (told_cell tell) cells tile.block (kinds.Home tile.home)
 
 homes-told : {B C : Type 0} (tell : B → C) (first second : Option (Tile B))
     (cells : List (Cell B)) →

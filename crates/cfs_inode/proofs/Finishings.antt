@@ -66,7 +66,8 @@ more-made old job asked out none = λ jobs core world together.
     let place = job.place in
     let comes = coming old job core world out stands stand in
     let did = follows-more old.tracker core place (held_back job) (tile_back job.first)
-    (tile_back job.second) out.out stands.follows (runs-through job core world old.ino stand none) in
+    (tile_back job.second) out.out stands.follows
+    (runs-through job core world old.ino stand none) in
     let now : Core = after core (events.Finish place ends.More) in
     let change : Pending Held → Pending Held =
     more_entry (held_back job) (number_of (tile_back job.first)) (number_of (tile_back job.second))

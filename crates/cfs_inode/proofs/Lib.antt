@@ -1,3 +1,4 @@
+pub mod Cases
 pub mod Tells
 pub mod Goods
 pub mod Resting

@@ -36,7 +36,8 @@ returns-then-not-fits g c =
     let staged = staged_seens words c.args.staged in
     let grant = grant_of (words_of (words (of_staged c.args.staged))) in
     subst (λ (n : ℕ). AdmissionMakes g.R.Region.obeys_power g.B.Block.obeys_power
-    g.B.Block.keeps_refused request grant staged nothing (too_big n staged) asked stock old asked stock
+    g.B.Block.keeps_refused request grant staged nothing (too_big n staged) asked stock old asked
+    stock
     old) (sym c.length.ensures)
     (admission-long g.R.Region.obeys_power g.B.Block.obeys_power g.B.Block.keeps_refused request
     grant staged asked stock old
@@ -71,7 +72,8 @@ returns-then-len-need g c =
       length-map (items_of c.args.stock.now) (λ z. bytes z.block),
     ) in
     subst (λ (n : ℕ). AdmissionMakes g.R.Region.obeys_power g.B.Block.obeys_power
-    g.B.Block.keeps_refused request grant staged nothing (need_blocks n staged) asked stock old asked
+    g.B.Block.keeps_refused request grant staged nothing (need_blocks n staged) asked stock old
+    asked
     stock old) same
     (admission-few g.R.Region.obeys_power g.B.Block.obeys_power g.B.Block.keeps_refused request
     grant staged asked stock old

@@ -31,7 +31,8 @@ more-requires g c =
     let job = job_view g.R.Region.seen g.B.Block.seen g.B.Block.number c.args.job in
     let came = c.take_apart-place.ensures in
     has-out (held_of g.R.Region.seen) (seens_of g.R.Region.seen) g.B.Block.seen
-    (view_of c.args.self.now.tracker) c.take_apart-place.result.0 job.place c.take_apart-place.result.1
+    (view_of c.args.self.now.tracker) c.take_apart-place.result.0 job.place
+    c.take_apart-place.result.1
     (held_back job) c.take_apart-place.result.2 c.take_apart-place.result.3 (tile_back job.first)
     (tile_back job.second) came c.requires.out.out
 
@@ -51,7 +52,8 @@ returns-then-not-is_last-clause-finishes g c =
       refl,
       ap (λ t. record old { tracker = t }) (more-is (held_of g.R.Region.seen)
           (seens_of g.R.Region.seen) g.B.Block.seen (view_of c.args.self.now.tracker)
-          (view_of c.more.new.self) c.take_apart-place.result.0 job.place c.take_apart-place.result.1
+          (view_of c.more.new.self) c.take_apart-place.result.0 job.place
+          c.take_apart-place.result.1
           (held_back job)
           c.take_apart-place.result.2 c.take_apart-place.result.3 (tile_back job.first)
           (tile_back job.second) came c.more.ensures.view),
@@ -74,7 +76,8 @@ retired-requires-clause-out g c =
     let job = job_view g.R.Region.seen g.B.Block.seen g.B.Block.number c.args.job in
     let came = c.take_apart-place.ensures in
     has-out (held_of g.R.Region.seen) (seens_of g.R.Region.seen) g.B.Block.seen
-    (view_of c.args.self.now.tracker) c.take_apart-place.result.0 job.place c.take_apart-place.result.1
+    (view_of c.args.self.now.tracker) c.take_apart-place.result.0 job.place
+    c.take_apart-place.result.1
     (held_back job) c.take_apart-place.result.2 c.take_apart-place.result.3 (tile_back job.first)
     (tile_back job.second) came c.requires.out.out
 
@@ -83,7 +86,8 @@ applied-requires-clause-out g c =
     let job = job_view g.R.Region.seen g.B.Block.seen g.B.Block.number c.args.job in
     let came = c.take_apart-place.ensures in
     has-out (held_of g.R.Region.seen) (seens_of g.R.Region.seen) g.B.Block.seen
-    (view_of c.args.self.now.tracker) c.take_apart-place.result.0 job.place c.take_apart-place.result.1
+    (view_of c.args.self.now.tracker) c.take_apart-place.result.0 job.place
+    c.take_apart-place.result.1
     (held_back job) c.take_apart-place.result.2 c.take_apart-place.result.3 (tile_back job.first)
     (tile_back job.second) came c.requires.out.out
 
@@ -92,7 +96,8 @@ put_back-requires g c =
     let job = job_view g.R.Region.seen g.B.Block.seen g.B.Block.number c.args.job in
     let came = c.take_apart-place.ensures in
     has-out (held_of g.R.Region.seen) (seens_of g.R.Region.seen) g.B.Block.seen
-    (view_of c.args.self.now.tracker) c.take_apart-place.result.0 job.place c.take_apart-place.result.1
+    (view_of c.args.self.now.tracker) c.take_apart-place.result.0 job.place
+    c.take_apart-place.result.1
     (held_back job) c.take_apart-place.result.2 c.take_apart-place.result.3 (tile_back job.first)
     (tile_back job.second) came c.requires.out.out
 
@@ -101,7 +106,8 @@ size_unsure-requires g c =
     let job = job_view g.R.Region.seen g.B.Block.seen g.B.Block.number c.args.job in
     let came = c.take_apart-place.ensures in
     has-out (held_of g.R.Region.seen) (seens_of g.R.Region.seen) g.B.Block.seen
-    (view_of c.args.self.now.tracker) c.take_apart-place.result.0 job.place c.take_apart-place.result.1
+    (view_of c.args.self.now.tracker) c.take_apart-place.result.0 job.place
+    c.take_apart-place.result.1
     (held_back job) c.take_apart-place.result.2 c.take_apart-place.result.3 (tile_back job.first)
     (tile_back job.second) came c.requires.out.out
 
@@ -150,7 +156,8 @@ returns-in-Ok-clause-finishes g c =
       },
       ap (λ t. record old { size = size; tracker = t }) (retired-is (held_of g.R.Region.seen)
           (seens_of g.R.Region.seen) g.B.Block.seen (view_of c.args.self.now.tracker)
-          (view_of c.retired.new.self) c.take_apart-place.result.0 job.place c.take_apart-place.result.1
+          (view_of c.retired.new.self) c.take_apart-place.result.0 job.place
+          c.take_apart-place.result.1
           (held_back job)
           c.take_apart-place.result.2 c.take_apart-place.result.3 (tile_back job.first)
           (tile_back job.second) came c.retired.ensures.view),
@@ -203,7 +210,8 @@ returns-in-Err-clause-finishes g c =
     (regions_of c.in-Err.live) c.in-Err.live c.in-Err.ensures.set c.in-Err.ensures.slots) in
     let size = g.R.Region.seen c.set_size.new.region in
     let held : Held = record { place = job.place; slots = slots } in
-    let back : CameBack (held_of g.R.Region.seen) g.B.Block.seen c.take_apart-place.result.0 c.in-Err.live
+    let back : CameBack (held_of g.R.Region.seen) g.B.Block.seen c.take_apart-place.result.0
+    c.in-Err.live
     c.take_apart-place.result.2 c.take_apart-place.result.3 job.place held (tile_back job.first)
     (tile_back job.second) = record {
       place_is = came.place_is;
@@ -276,7 +284,8 @@ returns-in-Unwritten-clause-finishes g c =
         sized,
         ap (λ t. record old { size = size; tracker = t }) (put-back-is (held_of g.R.Region.seen)
             (seens_of g.R.Region.seen) g.B.Block.seen (view_of c.args.self.now.tracker)
-            (view_of c.put_back.new.self) c.take_apart-place.result.0 job.place c.take_apart-place.result.1
+            (view_of c.put_back.new.self) c.take_apart-place.result.0 job.place
+            c.take_apart-place.result.1
             (held_back job)
             c.take_apart-place.result.2 c.take_apart-place.result.3 (tile_back job.first)
             (tile_back job.second) came c.put_back.ensures.view),

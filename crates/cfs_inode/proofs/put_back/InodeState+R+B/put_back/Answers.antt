@@ -12,7 +12,8 @@ put_back-requires g c =
     let job = job_view g.R.Region.seen g.B.Block.seen g.B.Block.number c.args.job in
     let came = c.take_apart-place.ensures in
     has-out (held_of g.R.Region.seen) (seens_of g.R.Region.seen) g.B.Block.seen
-    (view_of c.args.self.now.tracker) c.take_apart-place.result.0 job.place c.take_apart-place.result.1
+    (view_of c.args.self.now.tracker) c.take_apart-place.result.0 job.place
+    c.take_apart-place.result.1
     (held_back job) c.take_apart-place.result.2 c.take_apart-place.result.3 (tile_back job.first)
     (tile_back job.second) came c.requires.out.out
 
@@ -23,8 +24,10 @@ returns-clause-view g c =
     let came = c.take_apart-place.ensures in
     ap (λ t. record old { tracker = t })
     (put-back-is (held_of g.R.Region.seen) (seens_of g.R.Region.seen) g.B.Block.seen
-    (view_of c.args.self.now.tracker) (view_of c.put_back.new.self) c.take_apart-place.result.0 job.place
-    c.take_apart-place.result.1 (held_back job) c.take_apart-place.result.2 c.take_apart-place.result.3
+    (view_of c.args.self.now.tracker) (view_of c.put_back.new.self) c.take_apart-place.result.0
+    job.place
+    c.take_apart-place.result.1 (held_back job) c.take_apart-place.result.2
+    c.take_apart-place.result.3
     (tile_back job.first) (tile_back job.second) came c.put_back.ensures.view)
 
 pub returns-clause-makes : goal.returns-clause-makes
