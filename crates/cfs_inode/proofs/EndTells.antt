@@ -23,7 +23,7 @@ use Rattle.cfs_tracker.specs.View.{TrackerView, doing, entry_at, is_at, with_ent
 use Rattle.cfs_inode.specs.Backs.{tile_back, tile_from}
 use Rattle.cfs_inode.specs.View.{Held, told, told_cell, told_doing, told_entry}
 use Rattle.cfs_inode.proofs.JobTells.{next-told, set-told}
-use Rattle.cfs_inode.proofs.Tells.{at-told, with-told, without-told}
+use Rattle.cfs_inode.proofs.Tells.{at-told, with-told, with-told-by, without-told}
 
 -- ---- the job's blocks
 
@@ -119,18 +119,6 @@ size-told live doubt block view place =
     ∙ span-told live (entry_at view.entries place))
 
 -- ---- what becomes of it
-
-with-told-by : {S T : Type 0} (tell : S → T) (es : List (Pending S)) (place : ℕ)
-    (change : Pending S → Pending S) (other : Pending T → Pending T) →
-    ((e : Pending S) → told_entry tell (change e) ≡ other (told_entry tell e)) →
-    map (told_entry tell) (with_entry place change es)
-    ≡ with_entry place other (map (told_entry tell) es)
-with-told-by tell [] place change other same = refl
-with-told-by tell (x ∷ xs) place change other same = elim (cases_Bool (is_at place x)) [
-  | inl own ↦ rw own (ap (λ y. y ∷ map (told_entry tell) xs) (same x))
-  | inr beside ↦
-      rw beside (ap (λ ys. told_entry tell x ∷ ys) (with-told-by tell xs place change other same))
-]
 
 -- the entries, the blocks and the size of a tracker are told
 rebuilt : {S D B T E C : Type 0} (live : S → T) (doubt : D → E) (block : B → C)

@@ -43,7 +43,7 @@ held-told tell (kinds.Unsure home) = refl
 held-told tell (kinds.Lent place) = refl
 held-told tell (kinds.Moving is_sure) = refl
 
-is-held-told : {B C : Type 0} (tell : B → C) (cell : Cell B) →
+pub is-held-told : {B C : Type 0} (tell : B → C) (cell : Cell B) →
     is_held (told_cell tell cell) ≡ is_held cell
 is-held-told tell kinds.Hole = refl
 is-held-told tell (kinds.Home home) = refl
@@ -89,7 +89,7 @@ past-told live doubt tell view block =
       doubt-in-told doubt (block_span block) view.doubt,
     ) refl
 
-find-alike : (f g : ℕ → Bool) → ((k : ℕ) → f k ≡ g k) → (xs : List ℕ) → find f xs ≡ find g xs
+pub find-alike : (f g : ℕ → Bool) → ((k : ℕ) → f k ≡ g k) → (xs : List ℕ) → find f xs ≡ find g xs
 find-alike f g alike [] = refl
 find-alike f g alike (x ∷ xs) =
     rw (alike x) (ap (λ o. cond (g x) (Some x) o) (find-alike f g alike xs))
