@@ -40,3 +40,5 @@ pub mod Mappings
 pub mod MapTells
 pub mod Placings
 pub mod Admittings
+pub mod Noting
+pub mod Purges

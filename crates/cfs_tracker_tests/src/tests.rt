@@ -122,12 +122,15 @@ fn one_after_another(alloc: Global, rt: &impl Abort) -> Result<(), NoMemory> {
     assert_eq!(rt; tracker.next_mark(3, 0), None);
     assert_eq!(rt; tracker.read_blocker(2), Some(1));
     assert_eq!(rt; tracker.step(3), Step::NotYet(1));
+    tracker.note_passed(1);
+    tracker.note_passed(1);
     assert_eq!(rt;
         tracker.next_work(0),
         Some(Work {
             place: 1,
             is_noop: false,
-            read_waits: true
+            read_waits: true,
+            passed: 2
         })
     );
     let Some(taken) = dispatch(&mut tracker, 1) else {
@@ -153,7 +156,8 @@ fn one_after_another(alloc: Global, rt: &impl Abort) -> Result<(), NoMemory> {
         Some(Work {
             place: 3,
             is_noop: true,
-            read_waits: false
+            read_waits: false,
+            passed: 0
         })
     );
     assert_eq!(rt; tracker.take_covered(3), Some(3));
@@ -230,7 +234,8 @@ fn behind_ten_jobs(alloc: Global, rt: &impl Abort) -> Result<(), NoMemory> {
         Some(Work {
             place: 11,
             is_noop: false,
-            read_waits: false
+            read_waits: false,
+            passed: 0
         })
     );
     Ok(())
