@@ -190,16 +190,14 @@ purge-stands words tags keeps failed asked_old old asked_new new some did = tt
 
 -- ---- a state that stands
 
+is-zero : (word : ℕ) → ((word == 0) || false) ≡ true → word ≡ 0
+is-zero word h = grind (arith, nat_tests)
+
 sized-zero : (core : Core) (word : ℕ) → core.sizes ≡ [] → core.size ≡ 0 →
     is_size core word ≡ true → word ≡ 0
-sized-zero core word none zero_ h = last word h_
-  where
-    h_ : ((word == 0) || false) ≡ true
-    h_ = subst (λ (s : ℕ). ((word == s) || false) ≡ true) zero_
-        (subst (λ (ss : List ℕ). ((word == core.size) || list_any (λ s. word == s) ss) ≡ true) none
-        h)
-    last : (w : ℕ) → ((w == 0) || false) ≡ true → w ≡ 0
-    last w h = grind (arith, nat_tests)
+sized-zero core word none zero_ h =
+    is-zero word (subst (λ (s : ℕ). ((word == s) || false) ≡ true) zero_
+    (subst (λ (ss : List ℕ). ((word == core.size) || list_any (λ s. word == s) ss) ≡ true) none h))
 
 pub standing-tell : StandingTellZero
 standing-tell = λ state core world stands right image is.
