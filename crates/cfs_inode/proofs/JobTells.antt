@@ -16,7 +16,8 @@ use Rattle.cfs_tracker.specs.Cells.{cell_at}
 use Rattle.cfs_tracker.specs.Dispatch.{ahead, dispatched, first_cell, holder, is_ahead}
 use Rattle.cfs_tracker.specs.Dispatch.{is_read_ahead, are_still, is_still, is_waiting_doing}
 use Rattle.cfs_tracker.specs.Dispatch.{is_wanted_cell, lend, lent_to, lesser, next_cell, read_place}
-use Rattle.cfs_tracker.specs.Dispatch.{second_cell, sent, step_at, step_behind, step_of, step_of_blocks}
+use Rattle.cfs_tracker.specs.Dispatch.{second_cell, sent, step_at, step_behind, step_of}
+use Rattle.cfs_tracker.specs.Dispatch.{step_of_blocks}
 use Rattle.cfs_tracker.specs.Dispatch.{waiting_in, waiting_slots}
 use Rattle.cfs_tracker.specs.View.{TrackerView, entry_at, with_entry}
 use Rattle.cfs_tracker.proofs.Dispatching.{find-alike, still-held}

@@ -26,7 +26,7 @@ impl<R: Region + Drop, B: Block + Drop> InodeState<R, B> {
     /// empty file without blocks. `Failed` comes for a device fault alone, and then the same step
     /// is to be tried again. It walks the blocks of the file.
     pub fn purge<P: Power>(&mut self, power: &mut P) -> PurgeAnswer<B>
-        requires sized { 0 < length (words_of (state_view R.seen B.seen self.old).size) }
+        requires { 0 < length (words_of (state_view R.seen B.seen self.old).size) }
         ensures purges { Purges R.obeys_power B.obeys_power B.keeps_refused
             (purge_end B.seen result) (P.asked power.old) (state_view R.seen B.seen self.old)
             (P.asked power.new) (state_view R.seen B.seen self.new) }
@@ -49,7 +49,7 @@ impl<R: Region + Drop, B: Block + Drop> InodeState<R, B> {
         requires unused { is_in_use (view_of self.old.tracker) ≡ false }
         requires lowest { next_kept (view_of self.old.tracker) ≡ Some block }
         requires file { block < FILE_BLOCKS }
-        ensures purges { Purges R.obeys_power B.obeys_power B.keeps_refused
+        ensures { Purges R.obeys_power B.obeys_power B.keeps_refused
             (purge_end B.seen result) (P.asked power.old) (state_view R.seen B.seen self.old)
             (P.asked power.new) (state_view R.seen B.seen self.new) }
     {
@@ -73,7 +73,7 @@ impl<R: Region + Drop, B: Block + Drop> InodeState<R, B> {
         requires unused { is_in_use (view_of self.old.tracker) ≡ false }
         requires bare { next_kept (view_of self.old.tracker) ≡ None }
         requires sized { 0 < length (words_of (state_view R.seen B.seen self.old).size) }
-        ensures purges { Purges R.obeys_power B.obeys_power B.keeps_refused
+        ensures { Purges R.obeys_power B.obeys_power B.keeps_refused
             (purge_end B.seen result) (P.asked power.old) (state_view R.seen B.seen self.old)
             (P.asked power.new) (state_view R.seen B.seen self.new) }
     {

@@ -35,8 +35,9 @@ use Rattle.cfs_tracker.specs.Cells.{cell_at}
 use Rattle.cfs_tracker.specs.Dispatch.{ahead, are_still, dispatched, first_cell, holder, is_ahead}
 use Rattle.cfs_tracker.specs.Dispatch.{is_home, is_kept, is_read_ahead, is_still, is_still_at}
 use Rattle.cfs_tracker.specs.Dispatch.{is_waiting_doing, is_wanted_cell, lend, lent_to, lesser}
-use Rattle.cfs_tracker.specs.Dispatch.{next_cell, read_place, second_cell, sent, step_at, step_behind}
-use Rattle.cfs_tracker.specs.Dispatch.{step_of, step_of_blocks, step_with, tile_at, tile_in}
+use Rattle.cfs_tracker.specs.Dispatch.{next_cell, read_place, second_cell, sent, step_at}
+use Rattle.cfs_tracker.specs.Dispatch.{step_behind, step_of, step_of_blocks, step_with}
+use Rattle.cfs_tracker.specs.Dispatch.{tile_at, tile_in}
 use Rattle.cfs_tracker.specs.Follows.{CellStands, Follows, IsDoing, IsTrack, block_of, gate_for, is_dead}
 use Rattle.cfs_tracker.specs.Reads.{is_live_doing, place_of}
 use Rattle.cfs_tracker.proofs.Admissions.{mapped-less, mapped-tag}

@@ -1,6 +1,7 @@
 -- Other work is chosen, and a tracker is emptied.
-use Rattle.std.proofs.Common.{◌≡◌, ◌∙◌, ap, arith, cond, ◌+◌, ◌<◌, ◌∷◌, [], ◌||◌, inl, inr, length, List}
-use Rattle.std.proofs.Common.{None, Some, refl, replicate, sym, false, true, suc, zero, ℕ, Bool}
+use Rattle.std.proofs.Common.{◌≡◌, ◌∙◌, ◌+◌, ◌<◌, ◌||◌, ap, arith, inl, inr, length, List, [], ◌∷◌}
+use Rattle.std.proofs.Common.{None, Option, Some, refl, replicate, sym, false, true, suc, zero, ℕ}
+use Rattle.std.proofs.Common.{Bool}
 use Rattle.std.specs.Prelude.{find, is_some, nat_lt}
 use Rattle.std.specs.List.{list_any, range_with_len}
 use Rattle.std.proofs.lemmas.Bool.{cases_Bool}
@@ -39,21 +40,23 @@ follows-noted view core place follows =
 range-none : (test : ℕ → Bool) (from count k : ℕ) →
     find test (range_with_len from count) ≡ None → k < count → test (from + k) ≡ false
 range-none test from zero k none less = absurd (omega arith)
-range-none test from (suc count) k none less = elim (cases_Bool (test from)) [
+range-none test from (suc count) zero none less = elim (cases_Bool (test from)) [
   | inl own ↦
       let it : find test (range_with_len from (suc count)) ≡ Some from = rw own refl in
       cc
-  | inr beside ↦ later k less beside
+  | inr beside ↦ (let same : from + 0 ≡ from = omega arith in rw same beside)
 ]
-  where
-    later : (k : ℕ) → k < suc count → test from ≡ false → test (from + k) ≡ false
-    later zero less beside = (let same : from + 0 ≡ from = omega arith in rw same beside)
-    later (suc k) less beside =
-        let rest : find test (range_with_len from (suc count))
-        ≡ find test (range_with_len (suc from) count) =
-        rw beside refl in
-        let same : from + suc k ≡ suc from + k = omega arith in
-        rw same (range-none test (suc from) count k (sym rest ∙ none) (omega arith))
+range-none test from (suc count) (suc k) none less = elim (cases_Bool (test from)) [
+  | inl own ↦
+      let it : find test (range_with_len from (suc count)) ≡ Some from = rw own refl in
+      cc
+  | inr beside ↦
+      let rest : find test (range_with_len from (suc count))
+      ≡ find test (range_with_len (suc from) count) =
+      rw beside refl in
+      let same : from + suc k ≡ suc from + k = omega arith in
+      rw same (range-none test (suc from) count k (sym rest ∙ none) (omega arith))
+]
 
 is-hole : {B : Type 0} (cell : Cell B) → is_away cell ≡ false → is_held cell ≡ false →
     cell ≡ kinds.Hole
@@ -76,7 +79,8 @@ all-holes {B} (cell ∷ cells) away none =
 
 no-items : {X : Type 0} (xs : List X) → nat_lt 0 (length xs) ≡ false → xs ≡ []
 no-items [] none = refl
-no-items (x ∷ xs) none = cc
+no-items (x ∷ xs) none =
+    (let some : nat_lt 0 (length (x ∷ xs)) ≡ true = grind (arith, nat_tests) in cc)
 
 no-doubt : {D : Type 0} (doubt : Option (InDoubt D)) → is_some doubt ≡ false → doubt ≡ None
 no-doubt None none = refl

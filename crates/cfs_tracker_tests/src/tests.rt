@@ -196,7 +196,26 @@ fn more_than_two_blocks(alloc: Global, rt: &impl Abort) -> Result<(), NoMemory> 
     assert_eq!(rt; tracker.next_trim(), Some(0));
     assert_eq!(rt; tracker.take_block(0), Some(100));
     assert_eq!(rt; tracker.next_trim(), Some(1));
+    assert!(rt; tracker.is_in_use());
+    tracker.untagged(0, None);
+    assert_eq!(rt; tracker.next_kept(), Some(1));
+    assert_eq!(rt; tracker.take_block(1), Some(101));
+    tracker.untagged(1, None);
+    assert!(rt; !empty(&mut tracker));
+    assert_eq!(rt; tracker.take_block(2), Some(102));
+    tracker.untagged(2, None);
+    assert!(rt; empty(&mut tracker));
+    assert_eq!(rt; tracker.count(), 0);
     Ok(())
+}
+
+/// Empties a tracker, if nothing uses it and no block is left.
+fn empty(tracker: &mut Plain) -> bool {
+    if tracker.is_in_use() || tracker.next_kept().is_some() {
+        return false;
+    }
+    tracker.emptied();
+    true
 }
 
 /// Admits a write of so many bytes, and answers its place; 0 where it may not be admitted.

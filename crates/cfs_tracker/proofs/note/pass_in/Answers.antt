@@ -11,6 +11,8 @@ returns-in_default g c =
 pub returns : goal.returns
 returns g c =
     let es = c.args.entries.now in
-    let found = position-less es c.args.place c.in-Some.at (sym c.position_of.ensures ∙ c.in-Some.is) in
+    let found = position-less es c.args.place c.in-Some.at
+    (sym c.position_of.ensures ∙ c.in-Some.is) in
     rw c.pass_entry.ensures
-    (sym (with-at es c.args.place passed_entry c.index-entries-at.result c.in-Some.at found.1 found.0))
+    (sym (with-at es c.args.place passed_entry c.index-entries-at.result c.in-Some.at found.1
+    found.0))

@@ -4,4 +4,5 @@ use Rattle.cfs_tracker.proofs.tracker.Tracker.emptied.Goals as goal
 
 pub returns-clause-view : goal.returns-clause-view
 returns-clause-view g c =
-    emptied-view (view_of c.args.self.now) c.args.self.now.covers_file c.requires.unused c.requires.bare
+    emptied-view (view_of c.args.self.now) c.args.self.now.covers_file c.requires.unused
+    c.requires.bare
