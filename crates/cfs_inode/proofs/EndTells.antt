@@ -1,7 +1,6 @@
 -- What becomes of a change whose job comes back is told of a tracker as it is.
-use Rattle.std.proofs.Common.{◌≡◌, ◌∙◌, ◌||◌, ap, inl, inr, is_none, List, [], ◌∷◌, map, Option}
+use Rattle.std.proofs.Common.{◌≡◌, ◌∙◌, ◌||◌, ap, is_none, List, map, Option}
 use Rattle.std.proofs.Common.{None, Some, refl, subst, sym, true, false, ℕ, Bool}
-use Rattle.std.proofs.lemmas.Bool.{cases_Bool}
 use Rattle.std.specs.Option.{option_map}
 use Rattle.cfs_core.specs.Words.{sized}
 use Rattle.cfs_pmem.specs.Images.{Seen}
@@ -19,7 +18,7 @@ use Rattle.cfs_tracker.specs.Dispatch.{next_cell}
 use Rattle.cfs_tracker.specs.Finish.{IsOut, applied, applied_entry, blocks_in, blocks_out}
 use Rattle.cfs_tracker.specs.Finish.{done_with, home, is_last, is_last_of, more, more_entry}
 use Rattle.cfs_tracker.specs.Finish.{number_of, put_back, retired, size_after, size_unsure, span_in}
-use Rattle.cfs_tracker.specs.View.{TrackerView, doing, entry_at, is_at, with_entry, without}
+use Rattle.cfs_tracker.specs.View.{TrackerView, doing, entry_at, with_entry, without}
 use Rattle.cfs_inode.specs.Backs.{tile_back, tile_from}
 use Rattle.cfs_inode.specs.View.{Held, told, told_cell, told_doing, told_entry}
 use Rattle.cfs_inode.proofs.JobTells.{next-told, set-told}

@@ -10,7 +10,7 @@ use Rattle.cfs_slot.specs.declared.live.Live.{Live}
 use Rattle.cfs_medium.proofs.LiveLeft.{shown-recovers}
 use Rattle.cfs_tracker.specs.declared.pending.Pending.{Pending}
 use Rattle.cfs_tracker.specs.declared.tracker.Tracker.{Tracker}
-use Rattle.cfs_tracker.specs.View.{TrackerView, entry_at, view_of}
+use Rattle.cfs_tracker.specs.View.{entry_at, view_of}
 use Rattle.cfs_tracker.specs.Work.{noted, passed_entry}
 use Rattle.cfs_tracker.proofs.Entries.{at-with, here-with}
 use Rattle.cfs_tracker.proofs.Purging.{follows-noted}

@@ -1,7 +1,7 @@
 -- The state of a file that is no longer in the tree is emptied.
 use Rattle.std.specs.Prelude.{ℕ, ◌≡◌, Bool, true, false, Some, None, Ok, Err, List, [], get_or}
 use Rattle.cfs_pmem.specs.declared.trace.Asked.{Asked}
-use Rattle.cfs_pmem.specs.Images.{AllImages, Seen, WordStep, words_of}
+use Rattle.cfs_pmem.specs.Images.{AllImages, Seen, WordStep}
 use Rattle.cfs_block.specs.BlockImages.{BlockStep}
 use Rattle.cfs_block.specs.BlockOps.{SetsTag}
 use Rattle.cfs_core.specs.declared.inode_core.Core.{Core}

@@ -1,6 +1,6 @@
-use Rattle.std.proofs.Common.{◌≡◌, ap, [], subst, sym}
+use Rattle.std.proofs.Common.{ap, subst, sym}
 use Rattle.cfs_inode.specs.Purges.{StandsEmpty}
-use Rattle.cfs_inode.specs.View.{StateView, state_view}
+use Rattle.cfs_inode.specs.View.{StateView}
 use Rattle.cfs_inode.proofs.Purges.{stands-empty}
 use Rattle.cfs_inode.proofs.purge.InodeState+R+B.begin.Goals as goal
 

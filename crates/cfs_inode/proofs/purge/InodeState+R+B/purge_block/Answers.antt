@@ -1,11 +1,10 @@
-use Rattle.std.proofs.Common.{◌≡◌, ◌∙◌, arith, Option, None, Some, refl, subst, sym, true, false}
+use Rattle.std.proofs.Common.{◌≡◌, ◌∙◌, None, Some, subst, sym, true, false}
 use Rattle.cfs_block.specs.BlockOps.{SetsTag}
 use Rattle.cfs_tracker.specs.Cells.{cell_at, moving}
 use Rattle.cfs_tracker.specs.View.{view_of}
 use Rattle.cfs_tracker.specs.declared.cell.Cell.TheVariants as kinds
 use Rattle.cfs_inode.specs.Marking.{answer_for}
-use Rattle.cfs_inode.specs.Purges.{Untags, untagging}
-use Rattle.cfs_inode.specs.View.{state_view}
+use Rattle.cfs_inode.specs.Purges.{untagging}
 use Rattle.cfs_inode.proofs.Purges.{kept-held, state-in-use, state-kept}
 use Rattle.cfs_inode.proofs.TrimTells.{state-block, state-cell}
 use Rattle.cfs_inode.proofs.Trimmings.{tags-err, tags-ok, untagged-sure}

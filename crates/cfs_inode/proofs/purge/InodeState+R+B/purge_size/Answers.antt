@@ -1,9 +1,7 @@
-use Rattle.std.proofs.Common.{◌≡◌, ◌∙◌, ap, Bool, None, refl, false, ℕ}
-use Rattle.cfs_inode.specs.declared.size_answer.SizeAnswer.{SizeAnswer}
+use Rattle.std.proofs.Common.{◌∙◌, ap, Bool, None, refl, false, ℕ}
 use Rattle.cfs_inode.specs.declared.size_answer.SizeAnswer.TheVariants as went
-use Rattle.cfs_inode.specs.Finishing.{SetsSize, is_right}
-use Rattle.cfs_inode.specs.Purges.{Zeroes, keeping, writing}
-use Rattle.cfs_inode.specs.View.{state_view}
+use Rattle.cfs_inode.specs.Finishing.{is_right}
+use Rattle.cfs_inode.specs.Purges.{keeping, writing}
 use Rattle.cfs_inode.proofs.News.{state-stored}
 use Rattle.cfs_inode.proofs.Purges.{state-in-use, state-kept, state-zero}
 use Rattle.cfs_inode.proofs.Sizings.{sizes-are}
