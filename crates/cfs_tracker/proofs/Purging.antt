@@ -1,7 +1,7 @@
 -- Other work is chosen, and a tracker is emptied.
 use Rattle.std.proofs.Common.{◌≡◌, ◌∙◌, ◌+◌, ◌<◌, ◌||◌, ap, arith, inl, inr, length, List, [], ◌∷◌}
-use Rattle.std.proofs.Common.{None, Option, Some, refl, replicate, subst, sym, false, true, suc, zero, ℕ}
-use Rattle.std.proofs.Common.{Bool}
+use Rattle.std.proofs.Common.{None, Option, Some, refl, replicate, sym, false, true, suc, zero, ℕ}
+use Rattle.std.proofs.Common.{subst, Bool}
 use Rattle.std.specs.Prelude.{find, is_some, nat_lt}
 use Rattle.std.specs.List.{list_any, range_with_len}
 use Rattle.std.proofs.lemmas.Bool.{cases_Bool}
@@ -55,16 +55,8 @@ range-none test from (suc count) (suc k) none less = elim (cases_Bool (test from
       ≡ find test (range_with_len (from + 1) count) =
       rw beside refl in
       let same : from + suc k ≡ from + 1 + k = omega arith in
-      rw same (range-none test (from + 1) count k (sym rest ∙ none) (omega arith))
+      rw same (range-none test (from + 1) count k (sym rest ∙ none) (omega (arith, less)))
 ]
-
-none-held : {B : Type 0} (cells : List (Cell B)) →
-    find (λ block. is_held (cell_at cells block)) (range_with_len 0 (length cells)) ≡ None →
-    (k : ℕ) → k < length cells → is_held (cell_at cells k) ≡ false
-none-held cells bare k less =
-    let same : 0 + k ≡ k = omega arith in
-    subst (λ (n : ℕ). is_held (cell_at cells n) ≡ false) same
-    (range-none (λ block. is_held (cell_at cells block)) 0 (length cells) k bare less)
 
 is-hole : {B : Type 0} (cell : Cell B) → is_away cell ≡ false → is_held cell ≡ false →
     cell ≡ kinds.Hole
@@ -120,7 +112,9 @@ pub emptied-view : {S D B : Type 0} (view : TrackerView S D B) → length view.c
     record view { count = 0; long = 0; stored = 0; is_sure = true } ≡ stored_view 0
 emptied-view {S} {D} {B} view long none bare =
     let is = unused view none in
-    let holes = all-holes view.cells is.away (none-held view.cells bare) in
+    let holes = all-holes view.cells is.away (λ k less.
+    subst (λ (n : ℕ). is_held (cell_at view.cells n) ≡ false) (omega arith)
+    (range-none (λ block. is_held (cell_at view.cells block)) 0 (length view.cells) k bare less)) in
     let cells : view.cells ≡ replicate FILE_BLOCKS kinds.Hole =
     holes ∙ ap (λ n. replicate n kinds.Hole) long in
     rw (is.entries, is.reads, is.doubt, cells) refl
