@@ -22,14 +22,18 @@ use Rattle.cfs_core.specs.declared.event.Event.TheVariants as events
 use Rattle.cfs_pmem.specs.declared.trace.Asked.{Asked}
 use Rattle.std.proofs.lemmas.Bool.Decides.{nat_tests}
 use Rattle.std.specs.Option.{option_map}
+use Rattle.cfs_slot.specs.declared.slot.Slot.{Slot}
+use Rattle.cfs_vec.specs.declared.fixed_vec.FixedVec.{FixedVec}
+use Rattle.cfs_inode.specs.declared.answers.CloseAnswer.{CloseAnswer}
+use Rattle.cfs_inode.specs.declared.answers.CloseAnswer.TheVariants as answers
 use Rattle.cfs_inode.specs.Admitting.{AdmissionMakes, AdmitEnd, HasEnough, ReadyMakes, SettledMakes}
-use Rattle.cfs_inode.specs.Admitting.{admitted, count_in, doubted, freed_by, is_here, need_blocks}
+use Rattle.cfs_inode.specs.Admitting.{admitted, count_in, doubted, is_here, need_blocks}
 use Rattle.cfs_inode.specs.Admitting.{offset_in, ready_events, refused, settled_events, too_big}
 use Rattle.cfs_inode.specs.Admitting.AdmitsReady.{doubts, opens}
 use Rattle.cfs_inode.specs.Admitting.AdmitsSettled.{mapped, unmapped, unplaced}
 use Rattle.cfs_inode.specs.Admitting.Admits.{settles, too_few, too_long, unsettled}
 use Rattle.cfs_inode.specs.Ends.{CloseEnd, Settles, closed, failed, nothing, settle_events}
-use Rattle.cfs_inode.specs.Ends.{slots_in_doubt, with_doubt, without_doubt}
+use Rattle.cfs_inode.specs.Ends.{end_of, is_failed, slots_in_doubt, with_doubt, without_doubt}
 use Rattle.cfs_inode.specs.Covering.{MarksCovered, tried_events}
 use Rattle.cfs_inode.specs.Makes.{CallMakes}
 use Rattle.cfs_inode.specs.Mapping.{MapsBlocks, Tagged, TagsEach, tag_events}
@@ -200,7 +204,7 @@ pub admission-settles : (obeys tags keeps : Bool) (request : Request) (grant : �
     CallMakes (settle_events close) asked_old old asked mid → mid.tracker.doubt ≡ None →
     SettledMakes obeys tags keeps request grant staged end asked stock_old mid asked_new stock_new
     new →
-    AdmissionMakes obeys tags keeps request grant staged (freed_by close) end asked_old stock_old
+    AdmissionMakes obeys tags keeps request grant staged close end asked_old stock_old
     old asked_new stock_new new
 admission-settles obeys tags keeps request grant staged close asked_old stock_old old asked mid
     asked_new stock_new new end enough settle makes none did =
@@ -215,7 +219,7 @@ pub admission-unsettled : (obeys tags keeps : Bool) (request : Request) (grant :
     (staged : Seens) (asked_old : List Asked) (stock : Blocks) (old : StateView)
     (asked_new : List Asked) (new : StateView) → HasEnough old request stock →
     Settles obeys failed asked_old old asked_new new → CallMakes [] asked_old old asked_new new →
-    AdmissionMakes obeys tags keeps request grant staged None (refused staged) asked_old stock old
+    AdmissionMakes obeys tags keeps request grant staged failed (refused staged) asked_old stock old
     asked_new stock new
 admission-unsettled obeys tags keeps request grant staged asked_old stock old asked_new new enough
     settle makes =
@@ -224,7 +228,7 @@ admission-unsettled obeys tags keeps request grant staged asked_old stock old as
 pub admission-long : (obeys tags keeps : Bool) (request : Request) (grant : ℕ) (staged : Seens)
     (asked : List Asked) (stock : Blocks) (old : StateView) →
     LONGEST_FILE < long_after old.tracker.long request →
-    AdmissionMakes obeys tags keeps request grant staged None (too_big old.tracker.long staged)
+    AdmissionMakes obeys tags keeps request grant staged nothing (too_big old.tracker.long staged)
     asked stock old asked stock old
 admission-long obeys tags keeps request grant staged asked stock old long =
     (too_long long refl refl refl, λ entry next. rests old asked)
@@ -233,7 +237,7 @@ pub admission-few : (obeys tags keeps : Bool) (request : Request) (grant : ℕ) 
     (asked : List Asked) (stock : Blocks) (old : StateView) →
     long_after old.tracker.long request ≤ LONGEST_FILE →
     length stock < bare_needed old.tracker.cells (span request old.tracker.long) →
-    AdmissionMakes obeys tags keeps request grant staged None
+    AdmissionMakes obeys tags keeps request grant staged nothing
     (need_blocks (bare_needed old.tracker.cells (span request old.tracker.long)) staged) asked stock
     old asked stock old
 admission-few obeys tags keeps request grant staged asked stock old fits few =
@@ -348,6 +352,29 @@ nothing-settled words bytes old new here no_slots is =
     (none-back (told_doubt (seens_of words)) (view_of new.tracker).doubt
     (ap (λ (s : StateView). s.tracker.doubt) is
     ∙ ap (λ d. option_map (told_doubt (seens_of words)) d) none))
+
+-- and so it is behind a settling that did not fail
+pub well-settled : {R B : Type 0} {g : _} {N : ℕ} (words : R → Seen WordStep)
+    (bytes : B → Seen BlockStep) (old new : State R B (Live R g) (Doubt R g))
+    (answer : CloseAnswer (FixedVec (Slot R g) N)) (obeys : Bool)
+    (asked_old asked_new : List Asked) → is_failed answer ≡ false →
+    is_here (view_of old.tracker).doubt ≡ true →
+    Settles obeys (end_of words answer) asked_old (state_view words bytes old) asked_new
+    (state_view words bytes new) →
+    IsSettled (view_of old.tracker) (view_of new.tracker)
+well-settled words bytes old new (answers.Closed slots) obeys asked_old asked_new ok here did =
+    closed-settled words bytes old new did.2.1
+well-settled words bytes old new answers.Nothing obeys asked_old asked_new ok here did =
+    nothing-settled words bytes old new here did.0 did.1.1
+well-settled words bytes old new answers.Failed obeys asked_old asked_new ok here did = cc
+
+-- and one that failed
+pub ill-settled : {R : Type 0} {g : _} {N : ℕ} (words : R → Seen WordStep)
+    (answer : CloseAnswer (FixedVec (Slot R g) N)) → is_failed answer ≡ true →
+    end_of words answer ≡ failed
+ill-settled words (answers.Closed slots) is = cc
+ill-settled words answers.Nothing is = cc
+ill-settled words answers.Failed is = refl
 
 -- ---- the tests
 

@@ -1,7 +1,7 @@
 -- The block of a file block comes to be another one, and what the state knows of it.
-use Rattle.std.proofs.Common.{◌≡◌, ◌∙◌, ◌<◌, ◌==◌, ◌||◌, ap, arith, get_or, inl, inr, List, [], ◌∷◌}
-use Rattle.std.proofs.Common.{length, Option, None, Some, refl, set, subst, sym, true, false, zero}
-use Rattle.std.proofs.Common.{suc, ℕ, Bool}
+use Rattle.std.proofs.Common.{◌≡◌, ◌∙◌, ◌<◌, ◌==◌, ◌||◌, ap, arith, get_or, inl, inr, List}
+use Rattle.std.proofs.Common.{length, Option, None, Some, refl, set, subst, sym, true, false}
+use Rattle.std.proofs.Common.{ℕ, Bool}
 use Rattle.std.proofs.lemmas.Bool.Decides.{nat_tests}
 use Rattle.cfs_file.specs.declared.sizes.TheConstants.{FILE_BLOCKS}
 use Rattle.cfs_pmem.specs.Images.{Seen}
@@ -197,8 +197,3 @@ follows-moving view core block home less has follows =
     (λ other apart. refl)
     (moving-stands (cell_at view.cells block) (get_or core.tags block flags.Off)
     (follows.cells block less))
-
-pub set-set : {X : Type 0} (xs : List X) (k : ℕ) (a b : X) → set (set xs k a) k b ≡ set xs k b
-set-set [] k a b = refl
-set-set (x ∷ xs) zero a b = refl
-set-set (x ∷ xs) (suc k) a b = ap (λ ys. x ∷ ys) (set-set xs k a b)

@@ -1,13 +1,14 @@
 -- A block at home is taken out, read and put back.
 use Rattle.std.proofs.Common.{◌≡◌, ◌∙◌, ◌+◌, ◌-◌, ◌*◌, ◌/◌, ◌%◌, ◌<◌, ◌≤◌, ◌++◌, ap, arith, drop}
 use Rattle.std.proofs.Common.{false, length-append, if◌then◌else◌, inl, inr, max, nat_lt, rules}
-use Rattle.std.proofs.Common.{get_or, length, List, map, min, None, Ok, Err, OnOk, Result, Some}
-use Rattle.std.proofs.Common.{refl, set, subst, sym, take, true, ℕ, zero, suc, [], ◌∷◌}
+use Rattle.std.proofs.Common.{get_or, length, List, map, min, None, Some}
+use Rattle.std.proofs.Common.{refl, subst, sym, take, true, ℕ, []}
 use Rattle.std.proofs.lemmas.Bool.{cases_Bool, cases_lt}
 use Rattle.std.proofs.lemmas.Bool.Decides.{nat_tests}
 use borrow.Rule.Slice.PartMut.{put_mid}
 use Rattle.std.proofs.lemmas.List.FromFn.{get_or-map-range_with_len, length-map-range_with_len}
 use Rattle.std.proofs.lemmas.List.{ext_get_or, get_or-drop, get_or-take, length-drop, length-take}
+use Rattle.std.proofs.lemmas.List.{set-set}
 use Rattle.std.proofs.lemmas.List.{places}
 use Rattle.std.proofs.Math.Seq.{map-set_same}
 use Rattle.cfs_file.specs.declared.sizes.TheConstants.{BLOCK_LEN}
@@ -27,7 +28,7 @@ use Rattle.cfs_inode.specs.Serves.{stored_byte, stored_from}
 use Rattle.cfs_inode.specs.View.{StateView, state_view, told_cell}
 use Rattle.cfs_inode.proofs.Serving.{AreFull}
 use Rattle.cfs_inode.proofs.States.{state-told}
-use Rattle.cfs_inode.proofs.Works.{cell-told}
+use Rattle.cfs_inode.proofs.Cases.{cell-told}
 
 pub home-is : {B : Type 0} (cell : Cell B) (home : B) → is_home cell ≡ true →
     Some home ≡ held_in cell → cell ≡ kinds.Home home
@@ -44,12 +45,6 @@ some-home (kinds.Home block) own none = cc
 some-home (kinds.Unsure block) own none = cc
 some-home (kinds.Lent place) own none = cc
 some-home (kinds.Moving is_sure) own none = cc
-
-set-set : {X : Type 0} (xs : List X) (k : ℕ) (one now : X) →
-    set (set xs k one) k now ≡ set xs k now
-set-set [] k one now = refl
-set-set (x ∷ xs) zero one now = refl
-set-set (x ∷ xs) (suc k) one now = ap (λ ys. x ∷ ys) (set-set xs k one now)
 
 -- the state with the block back, read or not, is seen as it was
 pub state-read-back : {R B : Type 0} {g : _} (words : R → Seen WordStep)
@@ -78,12 +73,6 @@ pub bytes-read : (bytes out : List ℕ) (from n i : ℕ) → out ≡ take n (dro
 bytes-read bytes out from n i is less =
     ap (λ bs. get_or bs i 0) is ∙ get_or-take n (drop from bytes) i 0 less
     ∙ get_or-drop from bytes i 0
-
-pub size-read : (bytes out : List ℕ) (from n : ℕ) → out ≡ take n (drop from bytes) →
-    length bytes ≡ BLOCK_LEN → from + n ≤ BLOCK_LEN → length out ≡ n
-size-read bytes out from n is full room =
-    ap length is
-    ∙ omega (arith, length-take n (drop from bytes), length-drop from bytes, full, room)
 
 -- the cell as it is seen
 pub cell-seen : {R B : Type 0} {g : _} (words : R → Seen WordStep) (bytes : B → Seen BlockStep)
@@ -132,11 +121,6 @@ pub none-under : (i a : ℕ) → (if nat_lt i 0 then a else 0) ≡ 0
 none-under i a =
     let none : nat_lt i 0 ≡ false = grind (arith, nat_tests) in
     rw none refl
-
-pub ok-also : {T E : Type 0} {P Q : Type 0} (result : Result T E) → (P → Q) → OnOk result P →
-    OnOk result Q
-ok-also (Ok done) f p = f p
-ok-also (Err fault) f p = tt
 
 -- ---- a block with some of the positions
 

@@ -1,67 +1,27 @@
 -- What is to be marked next, told of a tracker as something else.
-use Rattle.std.proofs.Common.{◌≡◌, ◌∙◌, ap, inl, inr, List, [], ◌∷◌, map, Option, None, Some, refl}
+use Rattle.std.proofs.Common.{◌≡◌, ◌∙◌, ap, List, Option, None, Some, refl}
 use Rattle.std.proofs.Common.{sym, ℕ}
-use Rattle.std.specs.List.{find}
-use Rattle.std.proofs.lemmas.Bool.{cases_Bool}
 use Rattle.std.specs.Option.{option_map}
 use Rattle.cfs_pmem.specs.Images.{Seen, WordStep}
 use Rattle.cfs_block.specs.BlockImages.{BlockStep}
 use Rattle.cfs_slot.specs.declared.doubt.Doubt.{Doubt}
 use Rattle.cfs_slot.specs.declared.live.Live.{Live}
-use Rattle.cfs_tracker.specs.declared.doing.Doing.{Doing}
 use Rattle.cfs_tracker.specs.declared.doing.Doing.TheVariants as doings
 use Rattle.cfs_tracker.specs.declared.pending.Pending.{Pending}
 use Rattle.cfs_tracker.specs.declared.reading.Reading.{Reading}
-use Rattle.cfs_tracker.specs.Dispatch.{is_waiting_doing}
 use Rattle.cfs_tracker.specs.Mark.{is_next_mark, next_mark, next_mark_by}
-use Rattle.cfs_tracker.specs.Reads.{is_live_doing, place_of}
 use Rattle.cfs_tracker.specs.View.{TrackerView, entry_at, view_of}
 use Rattle.cfs_inode.specs.declared.state.State.{State}
-use Rattle.cfs_inode.specs.View.{held_of, seens_of, state_view, told, told_doing, told_entry}
+use Rattle.cfs_inode.specs.View.{held_of, seens_of, state_view, told, told_entry}
+use Rattle.cfs_inode.proofs.Cases.{first-told, live-told, waiting-told}
 use Rattle.cfs_inode.proofs.Tells.{at-told}
-
-waits-told : {S T : Type 0} (tell : S → T) (now : Doing S) →
-    is_waiting_doing (told_doing tell now) ≡ is_waiting_doing now
-waits-told tell (doings.Waiting slots) = refl
-waits-told tell doings.Marking = refl
-waits-told tell (doings.Out first second) = refl
-waits-told tell (doings.Covered slots) = refl
-waits-told tell doings.Closing = refl
-
-lives-told : {S T : Type 0} (tell : S → T) (now : Doing S) →
-    is_live_doing (told_doing tell now) ≡ is_live_doing now
-lives-told tell (doings.Waiting slots) = refl
-lives-told tell doings.Marking = refl
-lives-told tell (doings.Out first second) = refl
-lives-told tell (doings.Covered slots) = refl
-lives-told tell doings.Closing = refl
 
 test-told : {S T : Type 0} (tell : S → T) (reads : List Reading) (later : Pending S) (after : ℕ)
     (e : Pending S) →
     is_next_mark reads (told_entry tell later) after (told_entry tell e)
     ≡ is_next_mark reads later after e
 test-told tell reads later after e =
-    rw (waits-told tell e.doing, lives-told tell later.doing) refl
-
-find-told : {S T : Type 0} (tell : S → T) (reads : List Reading) (later : Pending S) (after : ℕ)
-    (es : List (Pending S)) →
-    find (is_next_mark reads (told_entry tell later) after) (map (told_entry tell) es)
-    ≡ option_map (told_entry tell) (find (is_next_mark reads later after) es)
-find-told tell reads later after [] = refl
-find-told {S} {T} tell reads later after (e ∷ es) =
-    elim (cases_Bool (is_next_mark reads later after e)) [
-      | inl hit ↦
-          let own = test-told tell reads later after e ∙ hit in
-          rw (own, hit) refl
-      | inr miss ↦
-          let other = test-told tell reads later after e ∙ miss in
-          rw (other, miss) (find-told tell reads later after es)
-    ]
-
-place-told : {S T : Type 0} (tell : S → T) (entry : Option (Pending S)) →
-    place_of (option_map (told_entry tell) entry) ≡ place_of entry
-place-told tell None = refl
-place-told tell (Some entry) = refl
+    rw (waiting-told tell e.doing, live-told tell later.doing) refl
 
 by-told : {S D B T E C : Type 0} (live : S → T) (doubt : D → E) (block : B → C)
     (view : TrackerView S D B) (later : Option (Pending S)) (after : ℕ) →
@@ -69,8 +29,9 @@ by-told : {S D B T E C : Type 0} (live : S → T) (doubt : D → E) (block : B �
     ≡ next_mark_by view later after
 by-told live doubt block view None after = refl
 by-told live doubt block view (Some later) after =
-    ap place_of (find-told live view.reads later after view.entries)
-    ∙ place-told live (find (is_next_mark view.reads later after) view.entries)
+    first-told live (is_next_mark view.reads later after)
+    (is_next_mark view.reads (told_entry live later) after)
+    (test-told live view.reads later after) view.entries
 
 pub next-mark-told : {S D B T E C : Type 0} (live : S → T) (doubt : D → E) (block : B → C)
     (view : TrackerView S D B) (by after : ℕ) →

@@ -1,7 +1,6 @@
 -- What becomes of a change whose job comes back is told of a tracker as it is.
-use Rattle.std.proofs.Common.{◌≡◌, ◌∙◌, ◌||◌, ap, inl, inr, is_none, List, [], ◌∷◌, map, Option}
+use Rattle.std.proofs.Common.{◌≡◌, ◌∙◌, ◌||◌, ap, is_none, List, map, Option}
 use Rattle.std.proofs.Common.{None, Some, refl, subst, sym, true, false, ℕ, Bool}
-use Rattle.std.proofs.lemmas.Bool.{cases_Bool}
 use Rattle.std.specs.Option.{option_map}
 use Rattle.cfs_core.specs.Words.{sized}
 use Rattle.cfs_pmem.specs.Images.{Seen}
@@ -19,17 +18,13 @@ use Rattle.cfs_tracker.specs.Dispatch.{next_cell}
 use Rattle.cfs_tracker.specs.Finish.{IsOut, applied, applied_entry, blocks_in, blocks_out}
 use Rattle.cfs_tracker.specs.Finish.{done_with, home, is_last, is_last_of, more, more_entry}
 use Rattle.cfs_tracker.specs.Finish.{number_of, put_back, retired, size_after, size_unsure, span_in}
-use Rattle.cfs_tracker.specs.View.{TrackerView, doing, entry_at, is_at, with_entry, without}
+use Rattle.cfs_tracker.specs.View.{TrackerView, doing, entry_at, with_entry, without}
 use Rattle.cfs_inode.specs.Backs.{tile_back, tile_from}
 use Rattle.cfs_inode.specs.View.{Held, told, told_cell, told_doing, told_entry}
-use Rattle.cfs_inode.proofs.JobTells.{next-told, set-told}
-use Rattle.cfs_inode.proofs.Tells.{at-told, with-told, without-told}
+use Rattle.cfs_inode.proofs.JobTells.{next-told}
+use Rattle.cfs_inode.proofs.Tells.{at-told, with-told, with-told-by, without-told}
 
 -- ---- the job's blocks
-
-abbrev pub told_tile : {B C : Type 0} → (B → C) → Option (Tile B) → Option (Tile C)
-told_tile tell None = None
-told_tile tell (Some tile) = Some (record { block = tile.block; home = tell tile.home })
 
 pub tile-told : {B : Type 0} (bytes : B → Seen BlockStep) (number : B → ℕ)
     (tile : Option (JobTile B)) →
@@ -45,7 +40,8 @@ number-told tell (Some tile) = refl
 home-told : {B C : Type 0} (tell : B → C) (tile : Option (Tile B)) (cells : List (Cell B)) →
     map (told_cell tell) (home tile cells) ≡ home (told_tile tell tile) (map (told_cell tell) cells)
 home-told tell None cells = refl
-home-told tell (Some tile) cells = set-told tell cells tile.block (kinds.Home tile.home)
+home-told tell (Some tile) cells =
+    map-set (told_cell tell) cells tile.block (kinds.Home tile.home)
 
 homes-told : {B C : Type 0} (tell : B → C) (first second : Option (Tile B))
     (cells : List (Cell B)) →
@@ -119,18 +115,6 @@ size-told live doubt block view place =
     ∙ span-told live (entry_at view.entries place))
 
 -- ---- what becomes of it
-
-with-told-by : {S T : Type 0} (tell : S → T) (es : List (Pending S)) (place : ℕ)
-    (change : Pending S → Pending S) (other : Pending T → Pending T) →
-    ((e : Pending S) → told_entry tell (change e) ≡ other (told_entry tell e)) →
-    map (told_entry tell) (with_entry place change es)
-    ≡ with_entry place other (map (told_entry tell) es)
-with-told-by tell [] place change other same = refl
-with-told-by tell (x ∷ xs) place change other same = elim (cases_Bool (is_at place x)) [
-  | inl own ↦ rw own (ap (λ y. y ∷ map (told_entry tell) xs) (same x))
-  | inr beside ↦
-      rw beside (ap (λ ys. told_entry tell x ∷ ys) (with-told-by tell xs place change other same))
-]
 
 -- the entries, the blocks and the size of a tracker are told
 rebuilt : {S D B T E C : Type 0} (live : S → T) (doubt : D → E) (block : B → C)
@@ -251,14 +235,6 @@ told-more live doubt block view place slots first second =
 alike : {A B C D X : Type 0} (f : A → B → C → D → X) (a one : A) (b two : B) (c three : C)
     (d four : D) → a ≡ one → b ≡ two → c ≡ three → d ≡ four → f a b c d ≡ f one two three four
 alike f a one b two c three d four i j k l = cc
-
--- a job's place, slots and blocks, as the tracker takes them back
-pub record CameBack {S T B C : Type 0} (live : S → T) (block : B → C) (place : ℕ) (slots : S)
-    (first second : Option (Tile B)) (own : ℕ) (held : T) (one two : Option (Tile C)) : Type 0 where
-  pub place_is : place ≡ own
-  pub slots_are : live slots ≡ held
-  pub first_is : told_tile block first ≡ one
-  pub second_is : told_tile block second ≡ two
 
 pub put-back-is : {S D B T E C : Type 0} (live : S → T) (doubt : D → E) (block : B → C)
     (view now : TrackerView S D B) (place own : ℕ) (slots : S) (held : T)

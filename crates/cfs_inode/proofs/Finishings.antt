@@ -66,7 +66,8 @@ more-made old job asked out none = λ jobs core world together.
     let place = job.place in
     let comes = coming old job core world out stands stand in
     let did = follows-more old.tracker core place (held_back job) (tile_back job.first)
-    (tile_back job.second) out stands.follows (runs-through job core world old.ino stand none) in
+    (tile_back job.second) out.out stands.follows
+    (runs-through job core world old.ino stand none) in
     let now : Core = after core (events.Finish place ends.More) in
     let change : Pending Held → Pending Held =
     more_entry (held_back job) (number_of (tile_back job.first)) (number_of (tile_back job.second))
@@ -114,7 +115,7 @@ size-moments old job core world obeys asked_old asked_new size out stands comes 
     let applied = applied_at old.tracker job.place in
     let gate = gate_for false applied in
     let did = follows-unsure old.tracker core job.place (held_back job) (tile_back job.first)
-    (tile_back job.second) out stands.follows in
+    (tile_back job.second) out.out stands.follows in
     (sizes-show old.ino n job.place gate applied core world size obeys (Err tt) asked_old asked_new
     (good (back core job.place gate applied sizes.Either) did.1.reached) stands.shows did.0
     comes.gate bound
@@ -137,7 +138,7 @@ unwritten-made old job obeys asked_old asked_new size out some sets = λ jobs co
     let applied = applied_at old.tracker place in
     let comes = coming old job core world out stands stand in
     let did = follows-back old.tracker core place (held_back job) (tile_back job.first)
-    (tile_back job.second) out stands.follows in
+    (tile_back job.second) out.out stands.follows in
     let end = as_far old.tracker place sizes.AsBefore in
     let now : Core = after core (events.Finish place end) in
     let change : Pending Held → Pending Held = doing (doings.Waiting (held_back job)) in
@@ -184,7 +185,7 @@ unkept-made old job obeys asked_old asked_new size out some sets = λ jobs core 
     let applied = applied_at old.tracker place in
     let comes = coming old job core world out stands stand in
     let did = follows-unsure old.tracker core place (held_back job) (tile_back job.first)
-    (tile_back job.second) out stands.follows in
+    (tile_back job.second) out.out stands.follows in
     let end = as_far old.tracker place sizes.Either in
     let now : Core = after core (events.Finish place end) in
     let before : Core =
@@ -252,11 +253,11 @@ gate-leads old job core world obeys answer asked_old asked_new size slots out al
     let place = job.place in
     let through = runs-through job core world old.ino stand all.none_left in
     let did = follows-applied old.tracker core place (held_back job) (tile_back job.first)
-    (tile_back job.second) out all.last stands.follows through in
+    (tile_back job.second) out.out all.last stands.follows through in
     retires-show old.ino n place (track core.tracks place).gate core (with_size size world)
     closed.closes.head closed.closes.now closed.closes.tails obeys answer closed.asked asked_new
     (good (after core (events.Finish place (sized_end Unsure))) did.1.reached) is.shows
-    (may-size old.tracker core place (tile_back job.first) (tile_back job.second) out all.last
+    (may-size old.tracker core place (tile_back job.first) (tile_back job.second) out.out all.last
     stands.follows through)
     comes.beside bound (stand.slots ∙ closed.closes.old_is) closed.closes.sets
 
@@ -273,7 +274,7 @@ retired-made old job obeys asked_old asked_new size slots out some all closed =
     let comes = coming old job core world out stands stand in
     let through = runs-through job core world old.ino stand all.none_left in
     let did = follows-retired old.tracker core place (tile_back job.first) (tile_back job.second)
-    out all.last stands.follows through in
+    out.out all.last stands.follows through in
     let now : Core = after core (events.Finish place ends.Retired) in
     let seens : Seens = closed.closes.now ∷ closed.closes.tails in
     let is = is-sized old job core world obeys asked_old closed.asked size out all.last
@@ -322,7 +323,7 @@ unclosed-made old job obeys asked_old asked_new size slots out some all closed =
     let through = runs-through job core world old.ino stand all.none_left in
     let held : Held = record { place = place; slots = slots } in
     let did = follows-applied old.tracker core place held (tile_back job.first)
-    (tile_back job.second) out all.last stands.follows through in
+    (tile_back job.second) out.out all.last stands.follows through in
     let end = sized_end Unsure in
     let now : Core = after core (events.Finish place end) in
     let seens : Seens = closed.closes.now ∷ closed.closes.tails in

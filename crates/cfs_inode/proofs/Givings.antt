@@ -41,7 +41,8 @@ use Rattle.cfs_inode.specs.Dispatching.{IsReadyAt, lent_of}
 use Rattle.cfs_inode.specs.Jobs.{AreTile, IsGiven, with_dispatched}
 use Rattle.cfs_inode.specs.View.{Held, StateView, held_of, seens_of, state_view, told_cell}
 use Rattle.cfs_inode.proofs.EndTells.{span-told}
-use Rattle.cfs_inode.proofs.JobTells.{all-are-still, cell-told, slots-told, step-told}
+use Rattle.cfs_inode.proofs.Cases.{cell-told}
+use Rattle.cfs_inode.proofs.JobTells.{all-are-still, slots-told, step-told}
 use Rattle.cfs_inode.proofs.JobTells.{told-dispatched}
 use Rattle.cfs_inode.proofs.States.{state-told}
 use Rattle.cfs_inode.proofs.Tells.{at-told}

@@ -1,10 +1,8 @@
 -- What becomes of a change is told of a tracker as it is.
-use Rattle.std.proofs.Common.{◌≡◌, ◌∙◌, ◌&&◌, ap, cond, inl, inr, List, [], ◌∷◌, length, map}
-use Rattle.std.proofs.Common.{Option, None, Some, refl, set, suc, true, false, zero, ℕ}
+use Rattle.std.proofs.Common.{◌≡◌, ◌∙◌, ◌&&◌, ap, cond, List, [], ◌∷◌, length, map}
+use Rattle.std.proofs.Common.{Option, None, Some, refl, true, ℕ}
 use Rattle.std.specs.List.{find, list_all, range_with_len}
-use Rattle.std.proofs.Math.ListN.{get_or-map}
-use Rattle.std.proofs.lemmas.Bool.{cases_Bool}
-use Rattle.std.proofs.lemmas.List.{length-map}
+use Rattle.std.proofs.lemmas.List.{length-map, map-set}
 use Rattle.std.specs.Option.{option_map}
 use Rattle.cfs_file.specs.declared.span.Span.{Span}
 use Rattle.cfs_tracker.specs.declared.cell.Cell.{Cell}
@@ -14,36 +12,21 @@ use Rattle.cfs_tracker.specs.declared.doing.Doing.TheVariants as doings
 use Rattle.cfs_tracker.specs.declared.pending.Pending.{Pending}
 use Rattle.cfs_tracker.specs.declared.step.Step.{Step}
 use Rattle.cfs_tracker.specs.declared.step.Step.TheVariants.{NotWaiting}
-use Rattle.cfs_tracker.specs.Admit.{is_mapped}
 use Rattle.cfs_tracker.specs.Cells.{cell_at}
 use Rattle.cfs_tracker.specs.Dispatch.{ahead, dispatched, first_cell, holder, is_ahead}
 use Rattle.cfs_tracker.specs.Dispatch.{is_read_ahead, are_still, is_still, is_waiting_doing}
 use Rattle.cfs_tracker.specs.Dispatch.{is_wanted_cell, lend, lent_to, lesser, next_cell, read_place}
-use Rattle.cfs_tracker.specs.Dispatch.{second_cell, step_at, step_behind, step_of, step_of_blocks}
+use Rattle.cfs_tracker.specs.Dispatch.{second_cell, sent, step_at, step_behind, step_of}
+use Rattle.cfs_tracker.specs.Dispatch.{step_of_blocks}
 use Rattle.cfs_tracker.specs.Dispatch.{waiting_in, waiting_slots}
-use Rattle.cfs_tracker.specs.Reads.{is_live_doing, place_of}
-use Rattle.cfs_tracker.specs.View.{TrackerView, doing, entry_at, with_entry}
+use Rattle.cfs_tracker.specs.View.{TrackerView, entry_at, with_entry}
 use Rattle.cfs_tracker.proofs.Dispatching.{find-alike, still-held}
 use Rattle.cfs_inode.specs.View.{told, told_cell, told_doing, told_entry}
-use Rattle.cfs_inode.proofs.Tells.{at-told, with-told}
+use Rattle.cfs_inode.proofs.Cases.{cell-told, first-told, lent-told, live-told, mapped-at}
+use Rattle.cfs_inode.proofs.Cases.{waiting-told}
+use Rattle.cfs_inode.proofs.Tells.{at-told, with-told-by}
 
 -- ---- the blocks
-
-mapped-told : {B C : Type 0} (tell : B → C) (cell : Cell B) →
-    is_mapped (told_cell tell cell) ≡ is_mapped cell
-mapped-told tell kinds.Hole = refl
-mapped-told tell (kinds.Home block) = refl
-mapped-told tell (kinds.Unsure block) = refl
-mapped-told tell (kinds.Lent place) = refl
-mapped-told tell (kinds.Moving is_sure) = refl
-
-lent-told : {B C : Type 0} (tell : B → C) (cell : Cell B) →
-    lent_to (told_cell tell cell) ≡ lent_to cell
-lent-told tell kinds.Hole = refl
-lent-told tell (kinds.Home block) = refl
-lent-told tell (kinds.Unsure block) = refl
-lent-told tell (kinds.Lent place) = refl
-lent-told tell (kinds.Moving is_sure) = refl
 
 still-told : {B C : Type 0} (tell : B → C) (cell : Cell B) →
     is_still (told_cell tell cell) ≡ is_still cell
@@ -66,19 +49,12 @@ pub all-are-still : {B : Type 0} (cells : List (Cell B)) (first second : Option 
 all-are-still cells first second all =
     rw (still-held cells first all) (still-held cells second all)
 
-pub cell-told : {B C : Type 0} (tell : B → C) (cells : List (Cell B)) (block : ℕ) →
-    cell_at (map (told_cell tell) cells) block ≡ told_cell tell (cell_at cells block)
-cell-told tell cells block = get_or-map (told_cell tell) cells block kinds.Hole
-
 wanted-told : {B C : Type 0} (tell : B → C) (cells : List (Cell B)) (span : Span)
     (done : Option ℕ) (block : ℕ) →
     is_wanted_cell (map (told_cell tell) cells) span done block
     ≡ is_wanted_cell cells span done block
 wanted-told tell cells span done block =
-    let mapped : is_mapped (cell_at (map (told_cell tell) cells) block)
-    ≡ is_mapped (cell_at cells block) =
-    ap is_mapped (cell-told tell cells block) ∙ mapped-told tell (cell_at cells block) in
-    rw mapped refl
+    rw (mapped-at tell cells block) refl
 
 pub next-told : {B C : Type 0} (tell : B → C) (cells : List (Cell B)) (span : Span)
     (done : Option ℕ) →
@@ -90,10 +66,10 @@ next-told tell cells span done =
     ∙ ap (λ (n : ℕ). find (is_wanted_cell cells span done) (range_with_len 0 n))
     (length-map cells (told_cell tell))
 
-first-told : {S T B C : Type 0} (live : S → T) (tell : B → C) (cells : List (Cell B))
+one-told : {S T B C : Type 0} (live : S → T) (tell : B → C) (cells : List (Cell B))
     (entry : Pending S) →
     first_cell (map (told_cell tell) cells) (told_entry live entry) ≡ first_cell cells entry
-first-told live tell cells entry =
+one-told live tell cells entry =
     ap (λ (o : Option ℕ). cond entry.applied None o)
     (next-told tell cells entry.span entry.done)
 
@@ -103,7 +79,7 @@ second-told : {B C : Type 0} (tell : B → C) (cells : List (Cell B)) (span : Sp
 second-told tell cells span None = refl
 second-told tell cells span (Some block) = next-told tell cells span (Some block)
 
-holder-told : {B C : Type 0} (tell : B → C) (cells : List (Cell B)) (held : Option ℕ) →
+pub holder-told : {B C : Type 0} (tell : B → C) (cells : List (Cell B)) (held : Option ℕ) →
     holder (map (told_cell tell) cells) held ≡ holder cells held
 holder-told tell cells None = refl
 holder-told tell cells (Some block) =
@@ -116,44 +92,14 @@ blocks-told tell cells first second =
 
 -- ---- what it waits for
 
-live-told : {S T : Type 0} (live : S → T) (now : Doing S) →
-    is_live_doing (told_doing live now) ≡ is_live_doing now
-live-told live (doings.Waiting slots) = refl
-live-told live doings.Marking = refl
-live-told live (doings.Out first second) = refl
-live-told live (doings.Covered slots) = refl
-live-told live doings.Closing = refl
-
-waiting-told : {S T : Type 0} (live : S → T) (now : Doing S) →
-    is_waiting_doing (told_doing live now) ≡ is_waiting_doing now
-waiting-told live (doings.Waiting slots) = refl
-waiting-told live doings.Marking = refl
-waiting-told live (doings.Out first second) = refl
-waiting-told live (doings.Covered slots) = refl
-waiting-told live doings.Closing = refl
-
-found-told : {S T : Type 0} (live : S → T) (place : ℕ) (span : Span) (es : List (Pending S)) →
-    place_of (find (is_ahead place span) (map (told_entry live) es))
-    ≡ place_of (find (is_ahead place span) es)
-found-told live place span [] = refl
-found-told live place span (e ∷ es) =
-    let alive = live-told live e.doing in
-    elim (cases_Bool (is_ahead place span e)) [
-      | inl own ↦
-          let it : is_ahead place span (told_entry live e) ≡ true = rw alive own in
-          rw (it, own) refl
-      | inr beside ↦
-          let it : is_ahead place span (told_entry live e) ≡ false = rw alive beside in
-          rw (it, beside) (found-told live place span es)
-    ]
-
 ahead-told : {S D B T E C : Type 0} (live : S → T) (doubt : D → E) (block : B → C)
     (view : TrackerView S D B) (entry : Pending S) →
     ahead (told live doubt block view) (told_entry live entry) ≡ ahead view entry
 ahead-told live doubt block view entry =
     ap (λ (o : Option ℕ). lesser o
     (read_place (find (is_read_ahead entry.place entry.span) view.reads)))
-    (found-told live entry.place entry.span view.entries)
+    (first-told live (is_ahead entry.place entry.span) (is_ahead entry.place entry.span)
+    (λ e. rw (live-told live e.doing) refl) view.entries)
 
 behind-told : {S D B T E C : Type 0} (live : S → T) (doubt : D → E) (block : B → C)
     (view : TrackerView S D B) (entry : Pending S) (before : Option ℕ) →
@@ -162,12 +108,12 @@ behind-told : {S D B T E C : Type 0} (live : S → T) (doubt : D → E) (block :
 behind-told live doubt block view entry (Some place) = refl
 behind-told live doubt block view entry None =
     rw (
-      first-told live block view.cells entry,
+      one-told live block view.cells entry,
       second-told block view.cells entry.span (first_cell view.cells entry),
     ) (blocks-told block view.cells (first_cell view.cells entry)
     (second_cell view.cells entry.span (first_cell view.cells entry)))
 
-of-told : {S D B T E C : Type 0} (live : S → T) (doubt : D → E) (block : B → C)
+pub of-told : {S D B T E C : Type 0} (live : S → T) (doubt : D → E) (block : B → C)
     (view : TrackerView S D B) (entry : Option (Pending S)) →
     step_of (told live doubt block view) (option_map (told_entry live) entry)
     ≡ step_of view entry
@@ -205,19 +151,12 @@ pub slots-told : {S T : Type 0} (live : S → T) (es : List (Pending S)) (place 
 slots-told live es place =
     ap waiting_slots (at-told live es place) ∙ slots-of-told live (entry_at es place)
 
-pub set-told : {B C : Type 0} (tell : B → C) (cells : List (Cell B)) (block : ℕ) (cell : Cell B) →
-    map (told_cell tell) (set cells block cell)
-    ≡ set (map (told_cell tell) cells) block (told_cell tell cell)
-set-told tell [] block cell = refl
-set-told tell (x ∷ cells) zero cell = refl
-set-told tell (x ∷ cells) (suc block) cell =
-    ap (λ xs. told_cell tell x ∷ xs) (set-told tell cells block cell)
-
 lend-told : {B C : Type 0} (tell : B → C) (cells : List (Cell B)) (place : ℕ)
     (held : Option ℕ) →
     map (told_cell tell) (lend place held cells) ≡ lend place held (map (told_cell tell) cells)
 lend-told tell cells place None = refl
-lend-told tell cells place (Some block) = set-told tell cells block (kinds.Lent place)
+lend-told tell cells place (Some block) =
+    map-set (told_cell tell) cells block (kinds.Lent place)
 
 pub told-dispatched : {S D B T E C : Type 0} (live : S → T) (doubt : D → E) (block : B → C)
     (place : ℕ) (first second : Option ℕ) (view : TrackerView S D B) →
@@ -227,10 +166,9 @@ told-dispatched live doubt block place first second view =
     ap (λ es. record (told live doubt block view) {
       entries = es;
       cells = map (told_cell block) (lend place second (lend place first view.cells));
-    }) (with-told live view.entries place (doings.Out first second))
+    }) (with-told-by live view.entries place (sent first second) (sent first second) (λ e. refl))
     ∙ ap (λ cells. record (told live doubt block view) {
-      entries = with_entry place (doing (doings.Out first second))
-          (map (told_entry live) view.entries);
+      entries = with_entry place (sent first second) (map (told_entry live) view.entries);
       cells = cells;
     }) (lend-told block (lend place first view.cells) place second
     ∙ ap (λ cells. lend place second cells) (lend-told block view.cells place first))

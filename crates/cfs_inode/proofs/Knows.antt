@@ -1,7 +1,9 @@
 -- What calls about jobs ask for is known where a state stands.
-use Rattle.std.proofs.Common.{◌≡◌, ◌∙◌, ◌+◌, ◌-◌, ◌==◌, ap, arith, length, List, [], ◌∷◌, map}
+use Rattle.std.proofs.Common.{◌≡◌, ◌∙◌, ◌+◌, ◌-◌, ◌<◌, ◌==◌, ap, arith, length, List, [], ◌∷◌}
+use Rattle.std.proofs.Common.{map, suc}
 use Rattle.std.proofs.Common.{Option, None, Some, refl, subst, sym, true, false, ℕ, Bool}
 use Rattle.std.specs.Prelude.{option_map, slice_get}
+use Rattle.std.specs.List.{list_all}
 use Rattle.std.proofs.lemmas.Bool.Decides.{nat_tests}
 use Rattle.cfs_file.specs.declared.entry.Entry.{Entry}
 use Rattle.cfs_file.specs.declared.request.Request.{Request}
@@ -36,10 +38,12 @@ use Rattle.cfs_tracker.specs.declared.doing.Doing.{Doing}
 use Rattle.cfs_tracker.specs.declared.doing.Doing.TheVariants as doings
 use Rattle.cfs_tracker.specs.declared.pending.Pending.{Pending}
 use Rattle.cfs_tracker.specs.declared.reading.Reading.{Reading}
-use Rattle.cfs_tracker.specs.Dispatch.{waiting_in}
+use Rattle.cfs_tracker.specs.Cells.{cell_at}
+use Rattle.cfs_tracker.specs.Dispatch.{is_still, sent, waiting_in}
 use Rattle.cfs_tracker.specs.Finish.{blocks_in, blocks_out, number_of}
 use Rattle.cfs_tracker.specs.Follows.{IsDoing, StandsAt, block_of, is_dead}
 use Rattle.cfs_tracker.specs.declared.cell.Cell.{Cell}
+use Rattle.cfs_tracker.specs.declared.cell.Cell.TheVariants as kinds
 use Rattle.cfs_tracker.specs.View.{doing, entry_at, read_at, with_entry}
 use Rattle.cfs_tracker.proofs.Entries.{here-with}
 use Rattle.cfs_block.specs.BlockImages.{BlockStep}
@@ -49,7 +53,7 @@ use Rattle.cfs_tracker.proofs.Tracks.{in-log}
 use Rattle.cfs_inode.specs.Backs.{HasOut, tile_back}
 use Rattle.cfs_inode.specs.Jobs.{AreTile}
 use Rattle.cfs_inode.specs.Knows.{JobsAreOut, StandingAreReady, TakenAreOut}
-use Rattle.cfs_inode.specs.Stands.{Stands}
+use Rattle.cfs_inode.specs.Stands.{IsAtRest, Stands}
 use Rattle.cfs_inode.specs.View.{Held, Seens, StateView}
 use Rattle.cfs_inode.proofs.Dispatches.{waiting-slots, waits-state}
 use Rattle.cfs_core_laws.proofs.Whole.{whole}
@@ -86,11 +90,13 @@ lease-number None = refl
 lease-number (Some tile) = refl
 
 pub jobs-out : JobsAreOut
-jobs-out state job jobs core world together =
-    out-at (entry_at state.tracker.entries job.place) (read_at state.tracker.reads job.place)
-    (track core.tracks job.place) (core_job job) (together.stands.follows.entries job.place)
-    together.out.0.state
-    ∙ rw (lease-number job.first, lease-number job.second) refl
+jobs-out state job jobs core world together = record {
+  ino_is = together.out.0.ino_is;
+  out = out-at (entry_at state.tracker.entries job.place) (read_at state.tracker.reads job.place)
+      (track core.tracks job.place) (core_job job) (together.stands.follows.entries job.place)
+      together.out.0.state
+      ∙ rw (lease-number job.first, lease-number job.second) refl;
+}
 
 -- ---- a change that waits
 
@@ -219,9 +225,32 @@ its-span state core world place entry held stands there waits open_ =
     ∙ is-request state.ino place t core held.slots
     (held-open state core world place entry held stands there waits open_)))
 
+-- no block is in the caller's hands
+rest-still : (ino block : ℕ) (cell : Cell (Seen BlockStep)) → IsAtRest ino block cell →
+    is_still cell ≡ true
+rest-still ino block kinds.Hole rest = refl
+rest-still ino block (kinds.Home seen) rest = refl
+rest-still ino block (kinds.Unsure seen) rest = refl
+rest-still ino block (kinds.Lent place) rest = refl
+rest-still ino block (kinds.Moving is_sure) rest = absurd rest
+
+all-still : (ino from : ℕ) (cells : List (Cell (Seen BlockStep))) →
+    ((k : ℕ) → k < length cells → IsAtRest ino (from + k) (cell_at cells k)) →
+    list_all (λ cell. is_still cell) cells ≡ true
+all-still ino from [] rest = refl
+all-still ino from (cell ∷ cells) rest =
+    let first : is_still cell ≡ true =
+    rest-still ino (from + 0) cell (rest 0 (omega arith)) in
+    let others = all-still ino (from + 1) cells (λ k less.
+    subst (λ (n : ℕ). IsAtRest ino n (cell_at cells k)) (omega arith)
+    (rest (suc k) (omega (arith, less)))) in
+    rw first others
+
 pub standing-ready : StandingAreReady
-standing-ready state core world place stands still = record {
-  still = still;
+standing-ready state core world place stands = record {
+  still = all-still state.ino 0 state.tracker.cells (λ k less.
+      subst (λ (n : ℕ). IsAtRest state.ino n (cell_at state.tracker.cells k)) (omega arith)
+      (stands.rest k (omega (arith, less, stands.follows.many))));
   opened = λ entry held there waits. record {
     placed = (stands.slots place entry held there (waiting-slots entry.doing held waits)).opened;
     spans = λ open_. its-span state core world place entry held stands there waits open_;
@@ -243,15 +272,17 @@ tile-number cells (Some block) (Some tile) are = ap (λ (n : ℕ). Some n) are.a
 pub taken-out : TakenAreOut
 taken-out place job old new is =
     let es = old.tracker.entries in
-    let change : Pending Held → Pending Held = doing (doings.Out is.first is.second) in
+    let change : Pending Held → Pending Held = sent is.first is.second in
     let there : entry_at (with_entry place change es) place ≡ Some (change is.entry) =
     here-with es place change (λ e. refl)
     ∙ ap (λ (o : Option (Pending Held)). option_map change o) is.given.there in
     let cells = old.tracker.cells in
-    subst (λ (s : StateView). HasOut s job) (sym is.view)
-    (ap (λ p. blocks_out (entry_at (with_entry place change es) p)) is.given.place_is
-    ∙ (ap (λ (o : Option (Pending Held)). blocks_out o) there
-    ∙ rw (
-      tile-number cells is.first job.first is.given.first_is,
-      tile-number cells is.second job.second is.given.second_is,
-    ) refl))
+    subst (λ (s : StateView). HasOut s job) (sym is.view) (record {
+      ino_is = is.given.ino_is;
+      out = ap (λ p. blocks_out (entry_at (with_entry place change es) p)) is.given.place_is
+          ∙ (ap (λ (o : Option (Pending Held)). blocks_out o) there
+          ∙ rw (
+            tile-number cells is.first job.first is.given.first_is,
+            tile-number cells is.second job.second is.given.second_is,
+          ) refl);
+    })

@@ -1,3 +1,4 @@
+pub mod Cases
 pub mod Tells
 pub mod Goods
 pub mod Resting
@@ -39,3 +40,5 @@ pub mod Mappings
 pub mod MapTells
 pub mod Placings
 pub mod Admittings
+pub mod Noting
+pub mod Purges

@@ -20,7 +20,7 @@ use Rattle.cfs_tracker.specs.View.{view_of}
 use Rattle.cfs_inode.specs.declared.state.State.{State}
 use Rattle.cfs_inode.specs.View.{state_view, told_cell}
 use Rattle.cfs_inode.proofs.Readies.{unmapped-told}
-use Rattle.cfs_inode.proofs.TrimTells.{cell-told}
+use Rattle.cfs_inode.proofs.Cases.{cell-told}
 
 bare-same : {B C : Type 0} (tell : B → C) (cell : Cell B) →
     is_bare (told_cell tell cell) ≡ is_bare cell

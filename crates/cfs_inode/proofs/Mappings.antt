@@ -360,9 +360,6 @@ mapping-none obeys keeps span asked stock old many stocked = record {
   stocked = stocked;
 }
 
-home-mapped : (home : Seen BlockStep) → is_unmapped (tagged_cell home true) ≡ false
-home-mapped home = refl
-
 -- what is left of the stock is enough for what is left to be mapped
 stock-left : (cells : List (Cell (Seen BlockStep))) (block : ℕ) (home now : Seen BlockStep)
     (span : Span) (stock_old stock_new : Blocks) (held : Option (Seen BlockStep)) →

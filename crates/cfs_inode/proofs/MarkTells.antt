@@ -1,12 +1,10 @@
 -- The marking of a change, told of a tracker as something else.
-use Rattle.std.proofs.Common.{◌≡◌, ◌∙◌, ap, List, ◌∷◌, map, Option, None, Some, refl, sym, true}
+use Rattle.std.proofs.Common.{◌≡◌, ◌∙◌, ap, List, ◌∷◌, map, Option, refl, sym, true}
 use Rattle.std.proofs.Common.{false, ℕ, Bool}
 use Rattle.std.specs.Option.{option_map}
-use Rattle.cfs_tracker.specs.declared.doing.Doing.{Doing}
 use Rattle.cfs_tracker.specs.declared.doing.Doing.TheVariants as doings
-use Rattle.cfs_tracker.specs.declared.pending.Pending.{Pending}
 use Rattle.cfs_tracker.specs.declared.tracker.Tracker.{Tracker}
-use Rattle.cfs_tracker.specs.Dispatch.{waiting_in, waiting_slots}
+use Rattle.cfs_tracker.specs.Dispatch.{waiting_slots}
 use Rattle.cfs_tracker.specs.Mark.{marked, marked_doing, marking}
 use Rattle.cfs_tracker.specs.View.{TrackerView, doing, entry_at, view_of, with_entry}
 use Rattle.cfs_pmem.specs.Images.{Seen, WordStep}
@@ -19,20 +17,8 @@ use Rattle.cfs_inode.specs.declared.state.State.{State}
 use Rattle.cfs_inode.specs.Marking.{waiting_at, with_marked}
 use Rattle.cfs_inode.specs.View.{Held, held_of, seens_of, state_view, told, told_doing, told_entry}
 use Rattle.cfs_inode.proofs.States.{state-told}
-use Rattle.cfs_inode.proofs.Tells.{at-told, with-told, with-with}
-
-waiting-in-told : {S T : Type 0} (tell : S → T) (now : Doing S) →
-    waiting_in (told_doing tell now) ≡ option_map tell (waiting_in now)
-waiting-in-told tell (doings.Waiting slots) = refl
-waiting-in-told tell doings.Marking = refl
-waiting-in-told tell (doings.Out first second) = refl
-waiting-in-told tell (doings.Covered slots) = refl
-waiting-in-told tell doings.Closing = refl
-
-waiting-entry-told : {S T : Type 0} (tell : S → T) (entry : Option (Pending S)) →
-    waiting_slots (option_map (told_entry tell) entry) ≡ option_map tell (waiting_slots entry)
-waiting-entry-told tell None = refl
-waiting-entry-told tell (Some entry) = waiting-in-told tell entry.doing
+use Rattle.cfs_inode.proofs.JobTells.{slots-told}
+use Rattle.cfs_inode.proofs.Tells.{with-told, with-with}
 
 marked-told : {S T : Type 0} (tell : S → T) (slots : S) (kept : Bool) →
     told_doing tell (marked_doing slots kept) ≡ marked_doing (tell slots) kept
@@ -58,9 +44,8 @@ pub state-waiting : {R B : Type 0} {g : _} (words : R → Seen WordStep)
     slots ≡ waiting_slots (entry_at (view_of state.tracker).entries place) →
     waiting_at (state_view words bytes state) place ≡ option_map (held_of words) slots
 state-waiting words bytes state place slots is =
-    ap waiting_slots (at-told (held_of words) (view_of state.tracker).entries place)
-    ∙ (waiting-entry-told (held_of words) (entry_at (view_of state.tracker).entries place)
-    ∙ ap (λ o. option_map (held_of words) o) (sym is))
+    slots-told (held_of words) (view_of state.tracker).entries place
+    ∙ ap (λ o. option_map (held_of words) o) (sym is)
 
 pub state-marked : {R B : Type 0} {g : _} (words : R → Seen WordStep) (bytes : B → Seen BlockStep)
     (state : State R B (Live R g) (Doubt R g)) (now : Tracker (Live R g) (Doubt R g) B)

@@ -1,6 +1,6 @@
 -- The offset of a staged append.
 use Rattle.std.proofs.Common.{◌≡◌, ◌∙◌, ◌≤◌, ◌+◌, ap, arith, List, [], length, refl}
-use Rattle.std.proofs.Common.{sym, true, ℕ, get_or-set_other}
+use Rattle.std.proofs.Common.{sym, true, ℕ}
 use Rattle.std.specs.Prelude.{nat_le, nat_lt}
 use Rattle.std.proofs.lemmas.Bool.Decides.{nat_tests}
 use Rattle.cfs_file.specs.declared.request.Request.{Request}
@@ -14,9 +14,9 @@ use Rattle.cfs_core.specs.Medium.{placed}
 use Rattle.cfs_core.specs.Words.{start_of}
 use Rattle.cfs_core.proofs.Legal.{both}
 use Rattle.cfs_pmem.specs.Images as images
-use Rattle.cfs_pmem.specs.Images.{Seen, WordStep, kept, words_of}
-use Rattle.cfs_slot.specs.Words.{grant_of, ino_of, with_offset}
-use Rattle.cfs_inode.specs.Placing.{IsOfSame, IsPlaced, IsStagedFor, IsSureFor}
+use Rattle.cfs_pmem.specs.Images.{Seen, WordStep}
+use Rattle.cfs_slot.specs.Words.{with_offset}
+use Rattle.cfs_inode.specs.Placing.{IsPlaced, IsStagedFor, IsSureFor}
 
 pub placed-append : (bytes : List ℕ) (long offset : ℕ) (was now : Request) →
     is_change (requests.Append bytes) ≡ true → was ≡ requests.Write offset bytes →
@@ -33,16 +33,6 @@ placed-append bytes long offset was now change is set =
     ∙ ap (λ (s : Span). requests.Write (start_of s) bytes) (sym range))
 
 -- another offset leaves the inode and the grant
-pub same-owner : (offset : ℕ) (old new : Seen WordStep) → new ≡ kept (images.wrote 3 offset old) →
-    IsOfSame old new
-same-owner offset old new is = record {
-  ino =
-      ap (λ (s : Seen WordStep). ino_of (words_of s)) is
-      ∙ get_or-set_other (words_of old) 3 2 offset 0 (λ same. omega (arith, same));
-  grant =
-      ap (λ (s : Seen WordStep). grant_of (words_of s)) is
-      ∙ get_or-set_other (words_of old) 3 5 offset 0 (λ same. omega (arith, same));
-}
 
 abbrev pub bytes_in : Request → List ℕ
 bytes_in (requests.Append bytes) = bytes

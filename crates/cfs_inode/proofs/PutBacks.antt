@@ -52,7 +52,7 @@ pub coming : (old : StateView) (job : JobView) (core : Core) (world : World) →
     Stands old core world → JobStands old.ino job core world → IsComing old job core
 coming old job core world out stands stand =
     let view = old.tracker in
-    let is = ending view job.place (tile_back job.first) (tile_back job.second) out in
+    let is = ending view job.place (tile_back job.first) (tile_back job.second) out.out in
     let own = track-of view core job.place is.entry stands.follows is.there in
     let running : is_out (track core.tracks job.place).state ≡ true = rw stand.state refl in
     let inside = in-log is_out refl core.tracks job.place running in
@@ -123,7 +123,7 @@ back-shows old job core world out stands comes =
     let view = old.tracker in
     let applied = applied_at view job.place in
     let did = follows-back view core job.place (held_back job) (tile_back job.first)
-    (tile_back job.second) out stands.follows in
+    (tile_back job.second) out.out stands.follows in
     backs-show old.ino job.place (gate_for false applied) applied core world stands.shows did.0
     comes.gate
 
@@ -139,7 +139,7 @@ back-made old job out asked = λ jobs core world together.
     let t = track core.tracks place in
     let change : Pending Held → Pending Held = doing (doings.Waiting (held_back job)) in
     let did = follows-back view core place (held_back job) (tile_back job.first)
-    (tile_back job.second) out stands.follows in
+    (tile_back job.second) out.out stands.follows in
     let now : Core = after core (events.Finish place (as_far view place sizes.AsBefore)) in
     let give : (n : ℕ) → length core.log + 2 ≤ n → (remains : Remains) → MayRemain world remains →
     AnyBetween (λ one. Recovers old.ino n one remains) core

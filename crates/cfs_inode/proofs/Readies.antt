@@ -1,7 +1,6 @@
 -- What a staged request is ready for.
 use Rattle.std.proofs.Common.{◌≡◌, ◌∙◌, ap, arith, cond, List, [], ◌∷◌, length, map, not, Some, refl, false, ℕ}
 use Rattle.std.specs.List.{find}
-use Rattle.std.proofs.Math.ListN.{get_or-map}
 use Rattle.std.specs.Option.{option_map}
 use Rattle.cfs_file.specs.declared.request.Request.{Request}
 use Rattle.cfs_file.specs.Span.{span}
@@ -20,6 +19,7 @@ use Rattle.cfs_tracker.specs.Admit.{MayAdmit, is_mapped}
 use Rattle.cfs_tracker.specs.Cells.{cell_at}
 use Rattle.cfs_tracker.specs.View.{TrackerView}
 use Rattle.cfs_inode.specs.View.{Seens, StateView, told, told_cell, told_doubt}
+use Rattle.cfs_inode.proofs.Cases.{mapped-at}
 use Rattle.cfs_inode.proofs.Openings.{IsReady}
 
 shut-all : (head : Seen WordStep) (tails : Seens) → AllImages head IsClosed →
@@ -54,20 +54,6 @@ ready seen old request head tails closed unmarked size sure file holds whole = r
 }
 
 -- ---- which blocks are mapped is told of a tracker as it is
-
-mapped-told : {B C : Type 0} (tell : B → C) (cell : Cell B) →
-    is_mapped (told_cell tell cell) ≡ is_mapped cell
-mapped-told tell kinds.Hole = refl
-mapped-told tell (kinds.Home block) = refl
-mapped-told tell (kinds.Unsure block) = refl
-mapped-told tell (kinds.Lent place) = refl
-mapped-told tell (kinds.Moving is_sure) = refl
-
-mapped-at : {B C : Type 0} (tell : B → C) (cells : List (Cell B)) (block : ℕ) →
-    is_mapped (cell_at (map (told_cell tell) cells) block) ≡ is_mapped (cell_at cells block)
-mapped-at tell cells block =
-    ap is_mapped (get_or-map (told_cell tell) cells block kinds.Hole)
-    ∙ mapped-told tell (cell_at cells block)
 
 pub unmapped-told : {B C : Type 0} (tell : B → C) (cells : List (Cell B)) (blocks : List ℕ) →
     find (λ k. not (is_mapped (cell_at (map (told_cell tell) cells) k))) blocks

@@ -226,7 +226,7 @@ set-sized old job core world obeys asked_old asked_new size out stands comes som
     let applied = applied_at old.tracker job.place in
     let gate = gate_for false applied in
     let did = follows-unsure old.tracker core job.place (held_back job) (tile_back job.first)
-    (tile_back job.second) out stands.follows in
+    (tile_back job.second) out.out stands.follows in
     let law = (λ (n : ℕ) (bound : length core.log + 2 ≤ n).
     sizes-show old.ino n job.place gate applied core world size obeys (Ok tt) asked_old asked_new
     (good (back core job.place gate applied sizes.Either) did.1.reached) stands.shows did.0
@@ -277,7 +277,7 @@ is-sized old job core world obeys asked_old asked_new size out last none stands 
     let wanted = size_after old.tracker job.place in
     sized-by old job core world obeys asked_old asked_new size wanted
     (is_right old.tracker.stored old.tracker.is_sure wanted) out stands comes some
-    (may-size old.tracker core job.place (tile_back job.first) (tile_back job.second) out last
+    (may-size old.tracker core job.place (tile_back job.first) (tile_back job.second) out.out last
     stands.follows (runs-through job core world old.ino stand none))
     (wanted-is old job core world stands comes) refl sets
 

@@ -1,7 +1,7 @@
 -- Blocks that are tagged, told of a state.
 use Rattle.std.proofs.Common.{◌≡◌, ◌∙◌, ◌<◌, ◌++◌, ap, List, [], ◌∷◌, length, map, None, Some, refl}
 use Rattle.std.proofs.Common.{set, sym, true, false, ℕ, Bool}
-use Rattle.std.proofs.lemmas.List.{map-append}
+use Rattle.std.proofs.lemmas.List.{map-append, set-set}
 use Rattle.cfs_pmem.specs.Images.{Seen, WordStep}
 use Rattle.cfs_block.specs.BlockImages.{BlockStep}
 use Rattle.cfs_block.specs.declared.free_block.ZeroBlock.{ZeroBlock}
@@ -16,8 +16,7 @@ use Rattle.cfs_tracker.proofs.Celling.{cell-here}
 use Rattle.cfs_inode.specs.declared.state.State.{State}
 use Rattle.cfs_inode.specs.Trims.{with_block_cell}
 use Rattle.cfs_inode.specs.View.{held_of, seens_of, state_view, told, told_cell}
-use Rattle.cfs_inode.proofs.Blocks.{set-set}
-use Rattle.cfs_inode.proofs.TrimTells.{cell-told}
+use Rattle.cfs_inode.proofs.Cases.{mapped-at}
 use Rattle.std.proofs.lemmas.List.{map-set}
 
 -- ---- a block that is taken to be tagged
@@ -62,14 +61,6 @@ fresh-bare cells block less unmapped has =
     ∙ (ap is_bare (none-moving (cell_at cells block) has)
     ∙ none-bare (cell_at cells block) unmapped has)
 
-mapped-same : {B C : Type 0} (tell : B → C) (cell : Cell B) →
-    is_mapped (told_cell tell cell) ≡ is_mapped cell
-mapped-same tell kinds.Hole = refl
-mapped-same tell (kinds.Home block) = refl
-mapped-same tell (kinds.Unsure block) = refl
-mapped-same tell (kinds.Lent place) = refl
-mapped-same tell (kinds.Moving is_sure) = refl
-
 -- ---- of a state
 
 pub state-mapped : {R B : Type 0} {g : _} (words : R → Seen WordStep) (bytes : B → Seen BlockStep)
@@ -77,8 +68,7 @@ pub state-mapped : {R B : Type 0} {g : _} (words : R → Seen WordStep) (bytes :
     is_mapped (cell_at (view_of state.tracker).cells block) ≡ mapped →
     is_mapped (cell_at (state_view words bytes state).tracker.cells block) ≡ mapped
 state-mapped words bytes state block mapped is =
-    ap is_mapped (cell-told bytes (view_of state.tracker).cells block)
-    ∙ (mapped-same bytes (cell_at (view_of state.tracker).cells block) ∙ is)
+    mapped-at bytes (view_of state.tracker).cells block ∙ is
 
 tagged-told : {B C : Type 0} (tell : B → C) (home : B) (kept : Bool) →
     told_cell tell (tagged_cell home kept) ≡ tagged_cell (tell home) kept

@@ -1,5 +1,6 @@
 -- Blocks are tagged.
 use Rattle.std.proofs.Common.{◌≡◌, ◌∙◌, ◌⊎◌, ◌≤◌, ◌<◌, ◌+◌, ap, arith, get_or, inl, inr, List, []}
+use Rattle.std.proofs.lemmas.List.{set-set}
 use Rattle.std.proofs.Common.{◌∷◌, length, None, Some, refl, set, subst, true, false, ℕ, Bool}
 use Rattle.cfs_file.specs.declared.sizes.TheConstants.{FILE_BLOCKS}
 use Rattle.cfs_core.specs.declared.event.Event.TheVariants as events
@@ -39,7 +40,7 @@ use Rattle.cfs_inode.specs.Marking.{answer_for}
 use Rattle.cfs_inode.specs.Stands.{IsAtRest, Stands}
 use Rattle.cfs_inode.specs.Trims.{block_at, with_block_cell}
 use Rattle.cfs_inode.specs.View.{Held, Seens, StateView}
-use Rattle.cfs_inode.proofs.Blocks.{block-put, follows-moving, retagged, set-set, with-none}
+use Rattle.cfs_inode.proofs.Blocks.{block-put, follows-moving, retagged, with-none}
 use Rattle.cfs_inode.proofs.Goods.{good}
 use Rattle.cfs_inode.proofs.Zeros.{blank-tried, zero-blank}
 

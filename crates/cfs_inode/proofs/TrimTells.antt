@@ -1,9 +1,8 @@
 -- The blocks of a tracker, told as something else.
-use Rattle.std.proofs.Common.{◌≡◌, ◌∙◌, ◌&&◌, ap, cond, List, [], ◌∷◌, length, map, Option, None}
-use Rattle.std.proofs.Common.{Some, refl, sym, true, ℕ, Bool}
+use Rattle.std.proofs.Common.{◌≡◌, ◌∙◌, ◌&&◌, ap, List, [], ◌∷◌, length, map, Option, None}
+use Rattle.std.proofs.Common.{Some, refl, sym, true, ℕ}
 use Rattle.std.specs.List.{find, list_any, range_with_len}
-use Rattle.std.proofs.Math.ListN.{get_or-map}
-use Rattle.std.proofs.lemmas.List.{length-map, map-set}
+use Rattle.std.proofs.lemmas.List.{length-map, map-set, set-set}
 use Rattle.std.specs.Option.{option_map}
 use Rattle.cfs_file.specs.declared.span.Span.{Span}
 use Rattle.cfs_pmem.specs.Images.{Seen, WordStep}
@@ -13,27 +12,22 @@ use Rattle.cfs_slot.specs.declared.doubt.Doubt.{Doubt}
 use Rattle.cfs_slot.specs.declared.live.Live.{Live}
 use Rattle.cfs_tracker.specs.declared.cell.Cell.{Cell}
 use Rattle.cfs_tracker.specs.declared.cell.Cell.TheVariants as kinds
-use Rattle.cfs_tracker.specs.declared.doing.Doing.{Doing}
 use Rattle.cfs_tracker.specs.declared.doing.Doing.TheVariants as doings
 use Rattle.cfs_tracker.specs.declared.in_doubt.InDoubt.{InDoubt}
 use Rattle.cfs_tracker.specs.declared.pending.Pending.{Pending}
 use Rattle.cfs_tracker.specs.declared.tracker.Tracker.{Tracker}
 use Rattle.cfs_tracker.specs.Cells.{cell_at, held_in, with_cell}
-use Rattle.cfs_tracker.specs.Reads.{is_live_doing}
 use Rattle.cfs_tracker.specs.Trim.{is_doubt_in, is_held, is_live_in, is_past, next_trim}
 use Rattle.cfs_tracker.specs.View.{TrackerView, view_of}
 use Rattle.cfs_inode.specs.declared.state.State.{State}
 use Rattle.cfs_inode.specs.Trims.{block_at, with_block_cell}
-use Rattle.cfs_inode.specs.View.{held_of, seens_of, state_view, told, told_cell, told_doing}
+use Rattle.cfs_inode.specs.View.{held_of, seens_of, state_view, told, told_cell}
 use Rattle.cfs_inode.specs.View.{told_doubt, told_entry}
-use Rattle.cfs_inode.proofs.Blocks.{set-set}
+use Rattle.cfs_tracker.proofs.Dispatching.{find-alike}
+use Rattle.cfs_inode.proofs.Cases.{cell-told, live-told}
 use Rattle.cfs_inode.proofs.States.{state-told}
 
 -- ---- one block
-
-pub cell-told : {B C : Type 0} (tell : B → C) (cells : List (Cell B)) (block : ℕ) →
-    cell_at (map (told_cell tell) cells) block ≡ told_cell tell (cell_at cells block)
-cell-told tell cells block = get_or-map (told_cell tell) cells block kinds.Hole
 
 held-told : {B C : Type 0} (tell : B → C) (cell : Cell B) →
     held_in (told_cell tell cell) ≡ option_map tell (held_in cell)
@@ -43,7 +37,7 @@ held-told tell (kinds.Unsure home) = refl
 held-told tell (kinds.Lent place) = refl
 held-told tell (kinds.Moving is_sure) = refl
 
-is-held-told : {B C : Type 0} (tell : B → C) (cell : Cell B) →
+pub is-held-told : {B C : Type 0} (tell : B → C) (cell : Cell B) →
     is_held (told_cell tell cell) ≡ is_held cell
 is-held-told tell kinds.Hole = refl
 is-held-told tell (kinds.Home home) = refl
@@ -61,14 +55,6 @@ state-block words bytes state block home is =
     ∙ ap (λ o. option_map bytes o) (sym is))
 
 -- ---- the next one to be given up
-
-live-told : {S T : Type 0} (tell : S → T) (now : Doing S) →
-    is_live_doing (told_doing tell now) ≡ is_live_doing now
-live-told tell (doings.Waiting slots) = refl
-live-told tell doings.Marking = refl
-live-told tell (doings.Out first second) = refl
-live-told tell (doings.Covered slots) = refl
-live-told tell doings.Closing = refl
 
 any-live-told : {S T : Type 0} (tell : S → T) (span : Span) (es : List (Pending S)) →
     list_any (is_live_in span) (map (told_entry tell) es) ≡ list_any (is_live_in span) es
@@ -89,11 +75,6 @@ past-told live doubt tell view block =
       doubt-in-told doubt (block_span block) view.doubt,
     ) refl
 
-find-alike : (f g : ℕ → Bool) → ((k : ℕ) → f k ≡ g k) → (xs : List ℕ) → find f xs ≡ find g xs
-find-alike f g alike [] = refl
-find-alike f g alike (x ∷ xs) =
-    rw (alike x) (ap (λ o. cond (g x) (Some x) o) (find-alike f g alike xs))
-
 pub next-told : {S D B T E C : Type 0} (live : S → T) (doubt : D → E) (tell : B → C)
     (view : TrackerView S D B) → next_trim (told live doubt tell view) ≡ next_trim view
 next-told live doubt tell view =
@@ -101,11 +82,11 @@ next-told live doubt tell view =
     (λ block. is_held (cell_at (map (told_cell tell) view.cells) block)
     && is_past (told live doubt tell view) block)
     (λ block. is_held (cell_at view.cells block) && is_past view block)
+    (range_with_len 0 (length (map (told_cell tell) view.cells)))
     (λ block. ap (λ b. b && is_past (told live doubt tell view) block)
     (ap is_held (cell-told tell view.cells block)
     ∙ is-held-told tell (cell_at view.cells block))
     ∙ ap (λ b. is_held (cell_at view.cells block) && b) (past-told live doubt tell view block))
-    (range_with_len 0 (length (map (told_cell tell) view.cells)))
     ∙ ap (λ n. find (λ block. is_held (cell_at view.cells block) && is_past view block)
     (range_with_len 0 n)) (length-map view.cells (told_cell tell))
 

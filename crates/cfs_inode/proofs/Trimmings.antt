@@ -1,5 +1,6 @@
 -- A block past the stored size is given up.
 use Rattle.std.proofs.Common.{◌≡◌, ◌∙◌, ◌*◌, ◌≤◌, ◌<◌, ◌+◌, ◌&&◌, ap, arith, get_or, inl, inr, List}
+use Rattle.std.proofs.lemmas.List.{set-set}
 use Rattle.std.proofs.Common.{[], ◌∷◌, length, Option, None, Some, Ok, Err, refl, set, subst, true}
 use Rattle.std.proofs.Common.{false, ℕ, Bool}
 use Rattle.std.specs.Prelude.{is_none, nat_lt, nat_le, not}
@@ -45,7 +46,7 @@ use Rattle.cfs_inode.specs.Marking.{answer_for}
 use Rattle.cfs_inode.specs.Stands.{IsAtRest, Stands}
 use Rattle.cfs_inode.specs.Trims.{block_at, with_block_cell}
 use Rattle.cfs_inode.specs.View.{StateView}
-use Rattle.cfs_inode.proofs.Blocks.{block-put, follows-moving, held-free, retagged, set-set}
+use Rattle.cfs_inode.proofs.Blocks.{block-put, follows-moving, held-free, retagged}
 use Rattle.cfs_inode.proofs.Blocks.{with-none}
 use Rattle.cfs_inode.proofs.Zeros.{blank-tried, past-blank}
 use Rattle.cfs_inode.proofs.Goods.{good}
@@ -245,7 +246,7 @@ trim-made old block was now freed obeys keeps asked_old asked_new past has sets 
 
 -- ---- what is named
 
-is-held-some : {B : Type 0} (cell : Cell B) → is_held cell ≡ true →
+pub is-held-some : {B : Type 0} (cell : Cell B) → is_held cell ≡ true →
     (home : B) × (held_in cell ≡ Some home)
 is-held-some kinds.Hole h = cc
 is-held-some (kinds.Home home) h = (home, refl)

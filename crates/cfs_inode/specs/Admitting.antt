@@ -16,7 +16,7 @@ use Rattle.cfs_tracker.specs.Admit.{bare_needed, long_after}
 use Rattle.cfs_inode.specs.declared.admit_answer.AdmitAnswer.{AdmitAnswer}
 use Rattle.cfs_inode.specs.declared.admit_answer.AdmitAnswer.TheVariants as answers
 use Rattle.cfs_inode.specs.Covering.{MarksCovered, tried_events}
-use Rattle.cfs_inode.specs.Ends.{CloseEnd, Settles, closed, failed, nothing, settle_events}
+use Rattle.cfs_inode.specs.Ends.{CloseEnd, Settles, failed, nothing, settle_events}
 use Rattle.cfs_inode.specs.Makes.{CallMakes}
 use Rattle.cfs_inode.specs.Mapping.{MapsBlocks, tag_events}
 use Rattle.cfs_inode.specs.Opening.{IsNext, Opens}
@@ -140,12 +140,6 @@ SettledMakes obeys tags keeps request grant staged end asked_old stock_old old a
 
 -- ---- the whole
 
--- the slots of the request that was in doubt, where its gate was closed
-abbrev pub freed_by : CloseEnd → Option Seens
-freed_by (closed slots) = Some slots
-freed_by nothing = None
-freed_by failed = None
-
 -- What the state knows of the request is as it should be: the file behind it is short enough, and
 -- the stock has the blocks that it needs.
 pub record HasEnough (old : StateView) (request : Request) (stock : Blocks) : Type 0 where
@@ -154,23 +148,23 @@ pub record HasEnough (old : StateView) (request : Request) (stock : Blocks) : Ty
 
 pub data Admits (obeys tags keeps : Bool) (request : Request) (grant : ℕ) (staged : Seens)
     (asked_old : List Asked) (stock_old : Blocks) (old : StateView) (asked_new : List Asked)
-    (stock_new : Blocks) (new : StateView) : Option Seens → AdmitEnd → Type 0 where
+    (stock_new : Blocks) (new : StateView) : CloseEnd → AdmitEnd → Type 0 where
   -- the file would be too long
   too_long : LONGEST_FILE < long_after old.tracker.long request → asked_new ≡ asked_old →
       stock_new ≡ stock_old → new ≡ old →
       Admits obeys tags keeps request grant staged asked_old stock_old old asked_new stock_new new
-      None (too_big old.tracker.long staged)
+      nothing (too_big old.tracker.long staged)
   -- the stock has fewer blocks than it needs
   too_few : long_after old.tracker.long request ≤ LONGEST_FILE →
       length stock_old < bare_needed old.tracker.cells (span request old.tracker.long) →
       asked_new ≡ asked_old → stock_new ≡ stock_old → new ≡ old →
       Admits obeys tags keeps request grant staged asked_old stock_old old asked_new stock_new new
-      None (need_blocks (bare_needed old.tracker.cells (span request old.tracker.long)) staged)
+      nothing (need_blocks (bare_needed old.tracker.cells (span request old.tracker.long)) staged)
   -- the request in doubt could not be settled
   unsettled : HasEnough old request stock_old → Settles obeys failed asked_old old asked_new new →
       stock_new ≡ stock_old →
       Admits obeys tags keeps request grant staged asked_old stock_old old asked_new stock_new new
-      None (refused staged)
+      failed (refused staged)
   -- nothing is in doubt, or any more
   settles : (close : CloseEnd) (asked : List Asked) (mid : StateView) (end : AdmitEnd) →
       HasEnough old request stock_old → Settles obeys close asked_old old asked mid →
@@ -178,14 +172,14 @@ pub data Admits (obeys tags keeps : Bool) (request : Request) (grant : ℕ) (sta
       AdmitsSettled obeys tags keeps request grant staged asked stock_old mid asked_new stock_new
       new end →
       Admits obeys tags keeps request grant staged asked_old stock_old old asked_new stock_new new
-      (freed_by close) end
+      close end
 
 abbrev pub admit_events : {obeys tags keeps : Bool} {request : Request} {grant : ℕ}
     {staged : Seens} {asked_old : List Asked} {stock_old : Blocks} {old : StateView}
-    {asked_new : List Asked} {stock_new : Blocks} {new : StateView} {freed : Option Seens}
+    {asked_new : List Asked} {stock_new : Blocks} {new : StateView} {close : CloseEnd}
     {end : AdmitEnd} →
     Admits obeys tags keeps request grant staged asked_old stock_old old asked_new stock_new new
-    freed end → Entry → List Event
+    close end → Entry → List Event
 admit_events (too_long long asked stock same) entry = []
 admit_events (too_few fits few asked stock same) entry = []
 admit_events (unsettled enough settle stock) entry = []
@@ -197,11 +191,11 @@ abbrev pub is_here : {D : Type 0} → Option (InDoubt D) → Bool
 is_here None = true
 is_here (Some doubt) = is_some doubt.slots
 
-abbrev pub AdmissionMakes : Bool → Bool → Bool → Request → ℕ → Seens → Option Seens → AdmitEnd →
+abbrev pub AdmissionMakes : Bool → Bool → Bool → Request → ℕ → Seens → CloseEnd → AdmitEnd →
     List Asked → Blocks → StateView → List Asked → Blocks → StateView → Type 0
-AdmissionMakes obeys tags keeps request grant staged freed end asked_old stock_old old asked_new
+AdmissionMakes obeys tags keeps request grant staged close end asked_old stock_old old asked_new
     stock_new new =
     (did : Admits obeys tags keeps request grant staged asked_old stock_old old asked_new stock_new
-    new freed end)
+    new close end)
     × ((entry : Entry) → IsNext old request entry →
     CallMakes (admit_events did entry) asked_old old asked_new new)

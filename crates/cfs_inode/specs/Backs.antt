@@ -1,5 +1,5 @@
 -- A job comes back to its state.
-use Rattle.std.specs.Prelude.{Option, Some, None, List, [], ◌∷◌}
+use Rattle.std.specs.Prelude.{ℕ, ◌≡◌, Option, Some, None, List, [], ◌∷◌}
 use Rattle.cfs_pmem.specs.declared.trace.Asked.{Asked}
 use Rattle.cfs_pmem.specs.Images.{Seen, WordStep}
 use Rattle.cfs_block.specs.BlockImages.{BlockStep}
@@ -28,11 +28,24 @@ tile_back (Some tile) = Some (record { block = tile.at; home = tile.seen })
 abbrev pub held_back : JobView → Held
 held_back job = record { place = job.place; slots = job.slots }
 
+abbrev pub told_tile : {B C : Type 0} → (B → C) → Option (Tile B) → Option (Tile C)
+told_tile tell None = None
+told_tile tell (Some tile) = Some (record { block = tile.block; home = tell tile.home })
+
+-- a job's place, slots and blocks, as the tracker takes them back
+pub record CameBack {S T B C : Type 0} (live : S → T) (block : B → C) (place : ℕ) (slots : S)
+    (first second : Option (Tile B)) (own : ℕ) (held : T) (one two : Option (Tile C)) : Type 0 where
+  pub place_is : place ≡ own
+  pub slots_are : live slots ≡ held
+  pub first_is : told_tile block first ≡ one
+  pub second_is : told_tile block second ≡ two
+
 -- ---- when they may be called
 
--- the state has the change at the job's place out, with the job's blocks
-abbrev pub HasOut : StateView → JobView → Type 0
-HasOut state job = IsOut state.tracker job.place (tile_back job.first) (tile_back job.second)
+-- The job is of the state's file, and the state has the change at its place out, with its blocks.
+pub record HasOut (state : StateView) (job : JobView) : Type 0 where
+  pub ino_is : job.ino ≡ state.ino
+  pub out : IsOut state.tracker job.place (tile_back job.first) (tile_back job.second)
 
 -- ---- it is put back
 

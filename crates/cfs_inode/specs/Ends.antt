@@ -1,5 +1,6 @@
 -- What calls that close a gate answer and leave.
-use Rattle.std.specs.Prelude.{ℕ, ◌≡◌, Bool, Option, Some, None, Ok, Err, List, [], ◌∷◌, map}
+use Rattle.std.specs.Prelude.{ℕ, ◌≡◌, Bool, true, false, Option, Some, None, Ok, Err, List, [], ◌∷◌}
+use Rattle.std.specs.Prelude.{map}
 use Rattle.cfs_core.specs.declared.event.Event.{Event}
 use Rattle.cfs_core.specs.declared.event.Event.TheVariants as events
 use Rattle.cfs_pmem.specs.declared.trace.Asked.{Asked}
@@ -20,6 +21,11 @@ pub data CloseEnd : Type 0 where
   closed : (slots : Seens) → CloseEnd
   nothing : CloseEnd
   failed : CloseEnd
+
+abbrev pub is_failed : {S : Type 0} → CloseAnswer S → Bool
+is_failed (answers.Closed slots) = false
+is_failed answers.Nothing = false
+is_failed answers.Failed = true
 
 abbrev pub end_of : {R : Type 0} {g : _} {N : ℕ} → (R → Seen WordStep) →
     CloseAnswer (FixedVec (Slot R g) N) → CloseEnd

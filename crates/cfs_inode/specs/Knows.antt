@@ -1,20 +1,18 @@
 -- What calls about jobs ask for is known where a state stands.
-use Rattle.std.specs.Prelude.{ℕ, ◌≡◌, true, List, ◌∷◌}
-use Rattle.std.specs.List.{list_all}
+use Rattle.std.specs.Prelude.{ℕ, List, ◌∷◌}
 use Rattle.cfs_core.specs.declared.inode_core.Core.{Core}
 use Rattle.cfs_job.specs.Views.{JobView}
 use Rattle.cfs_medium.specs.World.{World}
-use Rattle.cfs_tracker.specs.Dispatch.{is_still}
 use Rattle.cfs_inode.specs.Backs.{HasOut}
 use Rattle.cfs_inode.specs.Dispatching.{IsReadyAt, IsTaken}
 use Rattle.cfs_inode.specs.Stands.{Stands, Together}
 use Rattle.cfs_inode.specs.View.{StateView}
 
--- a job may be asked for, where no block is in the caller's hands
+-- a job may be asked for
 abbrev pub StandingAreReady : Type 0
 StandingAreReady =
     (state : StateView) (core : Core) (world : World) (place : ℕ) → Stands state core world →
-    list_all (λ cell. is_still cell) state.tracker.cells ≡ true → IsReadyAt state place
+    IsReadyAt state place
 
 -- and a job that is out may be taken back
 abbrev pub JobsAreOut : Type 0

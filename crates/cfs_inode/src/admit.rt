@@ -13,12 +13,13 @@ ghost use Rattle.cfs_tracker.specs.Admit.{MayAdmit, bare_needed, long_after};
 ghost use Rattle.cfs_tracker.specs.View.{view_of};
 ghost use Rattle.cfs_vec.specs.Items.{items_of};
 ghost use Rattle.cfs_inode.specs.Admitting.{AdmissionMakes, ReadyMakes, SettledMakes, admit_end};
-ghost use Rattle.cfs_inode.specs.Admitting.{count_in, freed_by, is_here, offset_in};
+ghost use Rattle.cfs_inode.specs.Admitting.{count_in, is_here, offset_in};
 ghost use Rattle.cfs_inode.specs.Ends.{end_of};
 ghost use Rattle.cfs_inode.specs.Placing.{IsStagedFor, IsSureFor, staged_seens};
 ghost use Rattle.cfs_inode.specs.Tagging.{stock_of};
 ghost use Rattle.cfs_inode.specs.View.{state_view};
 
+use crate::admission::Admission;
 use crate::admit_answer::AdmitAnswer;
 use crate::answers::CloseAnswer;
 use crate::state::InodeState;
@@ -127,8 +128,8 @@ impl<R: Region + Drop, B: Block + Drop> InodeState<R, B> {
     }
 
     /// Admits a change that was staged for this inode, with blocks of a stock, and marks what it
-    /// covers. Settles the request in doubt first, if there is one: `settled` tells what became of
-    /// it, with its slots. Whether the grant of the slots still stands is for the caller to see.
+    /// covers. Settles the request in doubt first, if there is one, and tells what became of it.
+    /// Whether the grant of the slots still stands is for the caller to see.
     ///
     /// It refuses before any step, in this order: `TooBig` exactly where the file would pass its
     /// longest length, and `NeedBlocks` exactly where the stock has fewer blocks than there are
@@ -140,8 +141,7 @@ impl<R: Region + Drop, B: Block + Drop> InodeState<R, B> {
         request: &Request,
         staged: Staged<R>,
         stock: &mut FixedVec<ZeroBlock<B>, N>,
-        settled: &mut CloseAnswer<FixedVec<Slot<R>, QUEUE_SLOTS>>,
-    ) -> AdmitAnswer<Staged<R>>
+    ) -> Admission<Staged<R>, FixedVec<Slot<R>, QUEUE_SLOTS>>
         requires ino { self.old.ino < 2 ^ 32 }
         // The slots of a request in doubt are here, as between calls.
         requires here { is_here (view_of self.old.tracker).doubt ≡ true }
@@ -155,33 +155,34 @@ impl<R: Region + Drop, B: Block + Drop> InodeState<R, B> {
         requires sure { IsSureFor request.now (R.seen (of_staged staged)) }
         ensures { AdmissionMakes R.obeys_power B.obeys_power B.keeps_refused request.now
             (grant_of (words_of (R.seen (of_staged staged)))) (staged_seens R.seen staged)
-            (freed_by (end_of R.seen settled.new)) (admit_end R.seen result)
+            (end_of R.seen result.settled) (admit_end R.seen result.answer)
             (P.asked power.old) (stock_of B.seen stock.old) (state_view R.seen B.seen self.old)
             (P.asked power.new) (stock_of B.seen stock.new) (state_view R.seen B.seen self.new) }
     {
-        *settled = CloseAnswer::Nothing;
         if !self.tracker.fits(request) {
-            return AdmitAnswer::TooBig {
-                length: self.tracker.length(),
-                staged,
+            let length = self.tracker.length();
+            return Admission {
+                settled: CloseAnswer::Nothing,
+                answer: AdmitAnswer::TooBig { length, staged },
             };
         }
         let need = self.tracker.bare_needed(request);
         if (stock.len() as u64) < need {
-            return AdmitAnswer::NeedBlocks { need, staged };
+            return Admission {
+                settled: CloseAnswer::Nothing,
+                answer: AdmitAnswer::NeedBlocks { need, staged },
+            };
         }
-        match self.settle(power) {
-            CloseAnswer::Closed(slots) => {
-                *settled = CloseAnswer::Closed(slots);
-                self.admit_settled(power, request, staged, stock)
-            }
-            CloseAnswer::Nothing => self.admit_settled(power, request, staged, stock),
-            CloseAnswer::Failed => {
-                *settled = CloseAnswer::Failed;
-                AdmitAnswer::Failed {
+        let settled = self.settle(power);
+        if settled.is_failed() {
+            return Admission {
+                settled,
+                answer: AdmitAnswer::Failed {
                     staged: Some(staged),
-                }
-            }
+                },
+            };
         }
+        let answer = self.admit_settled(power, request, staged, stock);
+        Admission { settled, answer }
     }
 }

@@ -1,5 +1,8 @@
 //! What calls that close a gate answer.
 
+ghost use Rattle.std.specs.Prelude.{◌≡◌};
+ghost use Rattle.cfs_inode.specs.Ends.{is_failed};
+
 /// What a call that is to close a gate answers. `S` is the slots of the request.
 #[derive(Drop)]
 pub enum CloseAnswer<S> {
@@ -9,6 +12,15 @@ pub enum CloseAnswer<S> {
     Nothing,
     /// A device fault: the gate may be open or closed.
     Failed,
+}
+
+impl<S> CloseAnswer<S> {
+    /// Whether it was a device fault.
+    pub fn is_failed(&self) -> bool
+        ensures { result ≡ is_failed self.now }
+    {
+        matches!(self, CloseAnswer::Failed)
+    }
 }
 
 /// What a call that is to answer a read tells.

@@ -11,7 +11,7 @@ impl<R: Region + Drop, B: Block + Drop> InodeState<R, B> {
     /// Marks each change that waits and that the live one at `by` covers, unless a read between
     /// them that is not answered needs it, by ascending place. Answers how many became no-ops: one
     /// whose mark failed waits on.
-    pub fn mark_covered<P: Power>(&mut self, power: &mut P, by: u64) -> u64
+    pub(crate) fn mark_covered<P: Power>(&mut self, power: &mut P, by: u64) -> u64
         ensures { MarksCovered R.obeys_power by result
             (P.asked power.old) (state_view R.seen B.seen self.old)
             (P.asked power.new) (state_view R.seen B.seen self.new) }

@@ -8,7 +8,7 @@ ghost use Rattle.cfs_inode.specs.Finishing.{FinishMakes, Finishes, finish_end};
 ghost use Rattle.cfs_inode.specs.View.{state_view};
 
 use crate::finish_answer::FinishAnswer;
-use crate::put_back::tile_from;
+use crate::put_back::take_apart;
 use crate::size::{is_right, set_size};
 use crate::size_answer::SizeAnswer;
 use crate::state::InodeState;
@@ -45,10 +45,7 @@ impl<R: Region + Drop, B: Block + Drop> InodeState<R, B> {
         if job.left() > 0 {
             return FinishAnswer::Unfinished(job);
         }
-        let place = job.place();
-        let (live, first, second) = job.into_parts();
-        let first = tile_from(first);
-        let second = tile_from(second);
+        let (place, live, first, second) = take_apart(job);
         if !self.tracker.is_last(place) {
             self.tracker.more(place, live, first, second);
             return FinishAnswer::More;

@@ -2,14 +2,14 @@
 //! nothing.
 
 ghost use Rattle.cfs_inode.specs.Knows.{JobsAreOut, StandingAreReady, TakenAreOut};
+ghost use Rattle.cfs_inode.specs.Purges.{StandingTellZero};
 
-/// What `dispatch` asks for holds of each state that stands, where no block is in the caller's
-/// hands.
+/// What `dispatch` asks for holds of each state that stands.
 pub fn standing_are_ready()
     ensures { StandingAreReady }
 {}
 
-/// What `finish` and `put_back` ask for holds of each job that a state has out.
+/// What `finish` and `put_back` ask for of a job holds of each that a state has out.
 pub fn jobs_are_out()
     ensures { JobsAreOut }
 {}
@@ -17,4 +17,9 @@ pub fn jobs_are_out()
 /// And so it holds of a job that `dispatch` gave out.
 pub fn taken_are_out()
     ensures { TakenAreOut }
+{}
+
+/// A state that stands and says that its size word is 0 in every image says right.
+pub fn standing_tell_zero()
+    ensures { StandingTellZero }
 {}

@@ -1,6 +1,7 @@
 //! The state of one inode with its devices.
 #![tactic(auto)]
 
+mod admission;
 mod admit;
 mod admit_answer;
 mod answers;
@@ -15,9 +16,12 @@ mod mapping;
 mod mark;
 mod mark_answer;
 mod new;
+mod note;
 mod open;
 mod parts;
 mod placing;
+mod purge;
+mod purge_answer;
 mod put_back;
 mod reading;
 mod reads;
@@ -33,12 +37,14 @@ mod telling;
 mod trim;
 mod trim_answer;
 
+pub use admission::Admission;
 pub use admit_answer::AdmitAnswer;
 pub use answers::{CloseAnswer, ServeAnswer};
 pub use dispatch_answer::DispatchAnswer;
 pub use finish_answer::FinishAnswer;
-pub use laws::{jobs_are_out, standing_are_ready, taken_are_out};
+pub use laws::{jobs_are_out, standing_are_ready, standing_tell_zero, taken_are_out};
 pub use mapped::Mapped;
 pub use mark_answer::MarkAnswer;
+pub use purge_answer::PurgeAnswer;
 pub use state::{InodeState, State};
 pub use trim_answer::TrimAnswer;

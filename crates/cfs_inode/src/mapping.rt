@@ -20,7 +20,7 @@ use cfs_vec::FixedVec;
 impl<R: Region + Drop, B: Block + Drop> InodeState<R, B> {
     /// Tags each block that the request needs and that is not mapped, lowest first, from a stock
     /// that has enough. Answers whether all are mapped; they are not after a device fault alone.
-    pub fn map_blocks<P: Power, const N: usize>(
+    pub(crate) fn map_blocks<P: Power, const N: usize>(
         &mut self,
         power: &mut P,
         request: &Request,

@@ -12,7 +12,7 @@ impl<R: Region + Drop, B: Block + Drop> InodeState<R, B> {
     /// Marks the change that waits at a place as a no-op, since the one at `by` covers it, in two
     /// writing steps. It answers `Nothing` exactly where no change waits there, and `Failed` for a
     /// device fault alone.
-    pub fn mark<P: Power>(&mut self, power: &mut P, place: u64, by: u64) -> MarkAnswer
+    pub(crate) fn mark<P: Power>(&mut self, power: &mut P, place: u64, by: u64) -> MarkAnswer
         ensures marks { Marks R.obeys_power place result
             (P.asked power.old) (state_view R.seen B.seen self.old)
             (P.asked power.new) (state_view R.seen B.seen self.new) }

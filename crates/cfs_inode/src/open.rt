@@ -21,7 +21,7 @@ use cfs_slot::Staged;
 impl<R: Region + Drop, B: Block + Drop> InodeState<R, B> {
     /// Opens the gate of a change with the next place, in two writing steps, and answers the place.
     /// Refuses for a device fault alone: then the request is in doubt.
-    pub fn open<P: Power>(
+    pub(crate) fn open<P: Power>(
         &mut self,
         power: &mut P,
         request: &Request,

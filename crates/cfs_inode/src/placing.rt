@@ -21,7 +21,12 @@ impl<R: Region + Drop, B: Block + Drop> InodeState<R, B> {
     /// Sets the offset of a staged append to the length of the file, in two writing steps; a write
     /// and a truncate have theirs. Answers whether it is set: it is not after a device fault alone,
     /// and then it is unsure.
-    pub fn place<P: Power>(&self, power: &mut P, request: &Request, staged: &mut Staged<R>) -> bool
+    pub(crate) fn place<P: Power>(
+        &self,
+        power: &mut P,
+        request: &Request,
+        staged: &mut Staged<R>,
+    ) -> bool
         requires settled { (view_of self.now.tracker).doubt ≡ None }
         requires change { is_change request.now ≡ true }
         requires staged { IsStagedFor request.now

@@ -2,17 +2,19 @@
 
 ghost use Rattle.std.specs.Prelude.{◌≡◌};
 ghost use Rattle.cfs_job.specs.Jobs.{job_view};
-ghost use Rattle.cfs_inode.specs.Backs.{HasOut, PutsBack, tile_from, with_put_back};
-ghost use Rattle.cfs_inode.specs.View.{state_view};
+ghost use Rattle.cfs_inode.specs.Backs.{CameBack, HasOut, PutsBack, held_back, tile_back};
+ghost use Rattle.cfs_inode.specs.Backs.{tile_from, with_put_back};
+ghost use Rattle.cfs_inode.specs.View.{held_of, state_view};
 
 use crate::state::InodeState;
 use cfs_block::Block;
 use cfs_job::{Job, Lent};
 use cfs_pmem::Region;
+use cfs_slot::Live;
 use cfs_tracker::Tile;
 
 /// A block that comes back from a job.
-pub(crate) fn tile_from<B: Block>(lent: Option<Lent<B>>) -> Option<Tile<B>>
+fn tile_from<B: Block>(lent: Option<Lent<B>>) -> Option<Tile<B>>
     ensures { result ≡ tile_from lent }
 {
     match lent {
@@ -22,6 +24,21 @@ pub(crate) fn tile_from<B: Block>(lent: Option<Lent<B>>) -> Option<Tile<B>>
         }),
         None => None,
     }
+}
+
+/// A job's place, slots and blocks, as the tracker takes them back.
+pub(crate) fn take_apart<R: Region + Drop, B: Block + Drop>(
+    job: Job<R, B>,
+) -> (u64, Live<R>, Option<Tile<B>>, Option<Tile<B>>)
+    ensures { CameBack (held_of R.seen) B.seen result.0 result.1 result.2 result.3
+        (job_view R.seen B.seen B.number job).place
+        (held_back (job_view R.seen B.seen B.number job))
+        (tile_back (job_view R.seen B.seen B.number job).first)
+        (tile_back (job_view R.seen B.seen B.number job).second) }
+{
+    let place = job.place();
+    let (live, first, second) = job.into_parts();
+    (place, live, tile_from(first), tile_from(second))
 }
 
 impl<R: Region + Drop, B: Block + Drop> InodeState<R, B> {
@@ -36,10 +53,7 @@ impl<R: Region + Drop, B: Block + Drop> InodeState<R, B> {
         ensures makes { PutsBack (state_view R.seen B.seen self.old)
             (job_view R.seen B.seen B.number job) (state_view R.seen B.seen self.new) }
     {
-        let place = job.place();
-        let (live, first, second) = job.into_parts();
-        let first = tile_from(first);
-        let second = tile_from(second);
+        let (place, live, first, second) = take_apart(job);
         self.tracker.put_back(place, live, first, second);
     }
 }

@@ -5,6 +5,7 @@ ghost use Rattle.std.specs.Prelude.{if◌then◌else◌, length, nat_lt};
 ghost use Rattle.cfs_file.specs.declared.sizes.TheConstants.{BLOCK_LEN};
 ghost use Rattle.cfs_core.specs.Words.{end_of, start_of};
 ghost use Rattle.cfs_tracker.specs.Cells.{cell_at};
+ghost use Rattle.cfs_inode.specs.declared.answers.ServeAnswer.TheVariants.{NotYet};
 ghost use Rattle.cfs_inode.specs.Makes.{CallMakes};
 ghost use Rattle.cfs_inode.specs.Serves.{IsRead, IsReadOf, Reads, Serves, blocks_between, byte_in};
 ghost use Rattle.cfs_inode.specs.Serves.{end_block, home_byte, home_device, home_devices};
@@ -62,13 +63,15 @@ fn clear_from(out: &mut [u8], from: u64)
 
 impl<R: Region + Drop, B: Block + Drop> InodeState<R, B> {
     /// Answers the pending read at a place: fills `out`, which has room for its bytes, with the
-    /// stored ones. A sync has none. Each block at home that holds one of them is read once. Fails
-    /// for a device fault alone: then the read is pending as before, and `out` may hold any bytes.
+    /// stored ones. A sync has none. Each block at home that holds one of them is read once. While
+    /// it waits for a change, `out` stays as it is. Fails for a device fault alone: then the read
+    /// is pending as before, and `out` may hold any bytes.
     pub fn serve<P: Power>(&mut self, power: &mut P, place: u64, out: &mut [u8]) -> ServeAnswer
         requires { IsRead (state_view R.seen B.seen self.old) place (length out.old) }
         ensures serves { Serves B.obeys_power place result out.new
             (P.asked power.old) (state_view R.seen B.seen self.old)
             (P.asked power.new) (state_view R.seen B.seen self.new) }
+        ensures waiting { (before : ℕ) → result ≡ NotYet before → out.new ≡ out.old }
         ensures makes { CallMakes (serve_events place result out.new)
             (P.asked power.old) (state_view R.seen B.seen self.old)
             (P.asked power.new) (state_view R.seen B.seen self.new) }

@@ -29,7 +29,7 @@ impl<R: Region + Drop, B: Block + Drop> InodeState<R, B> {
     /// last tag failed, or else the last of the stock, which then has one. It takes two writing
     /// steps. Answers whether the block is mapped; it is not after a device fault alone, and then
     /// it is kept with a tag that is unsure.
-    pub fn tag<P: Power, const N: usize>(
+    pub(crate) fn tag<P: Power, const N: usize>(
         &mut self,
         power: &mut P,
         block: u64,

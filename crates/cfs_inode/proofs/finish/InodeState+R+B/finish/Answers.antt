@@ -1,20 +1,19 @@
 use Rattle.std.proofs.Common.{◌≡◌, ◌∙◌, ap, ℕ, Bool, ◌∷◌, map, Ok, Err, refl, subst, sym, arith}
 use Rattle.std.proofs.Common.{rules}
-use Rattle.cfs_job.specs.Jobs.{job_view, request_in}
+use Rattle.cfs_job.specs.Jobs.{job_view}
 use Rattle.cfs_job.specs.Steps.{steps_left}
-use Rattle.cfs_slot.specs.declared.live.Live.{Live}
 use Rattle.cfs_slot.specs.Reads.{regions_of}
-use Rattle.cfs_slot.specs.Regions.{head_of, of_live, of_slots, place_of, tails_of_live}
+use Rattle.cfs_slot.specs.Regions.{head_of, of_live, of_slots, tails_of_live}
 use Rattle.cfs_core.specs.declared.event.End.TheVariants as ends
 use Rattle.cfs_tracker.specs.Finish.{is_last, size_after}
 use Rattle.cfs_tracker.specs.View.{view_of}
 use Rattle.cfs_inode.specs.Heads.{Closes}
 use Rattle.cfs_inode.specs.declared.size_answer.SizeAnswer.TheVariants as went
-use Rattle.cfs_inode.specs.Backs.{EndMakes, held_back, tile_back}
+use Rattle.cfs_inode.specs.Backs.{CameBack, EndMakes, held_back, tile_back}
 use Rattle.cfs_inode.specs.Finishing.{IsAllDone, closing, is_right, keeping, writing}
-use Rattle.cfs_inode.specs.View.{Held, StateView, held_of, seens_of, state_view}
+use Rattle.cfs_inode.specs.View.{Held, Seens, StateView, held_of, seens_of, state_view}
 use Rattle.cfs_inode.proofs.Heads.{slots-err, slots-ok}
-use Rattle.cfs_inode.proofs.EndTells.{CameBack, applied-is, came-apart, has-out, last-told, more-is}
+use Rattle.cfs_inode.proofs.EndTells.{applied-is, has-out, last-told, more-is}
 use Rattle.cfs_inode.proofs.EndTells.{put-back-is, retired-is, size-told, unsure-is}
 use Rattle.cfs_inode.proofs.Finishings.{fails-made, more-made, retired-made}
 use Rattle.cfs_inode.proofs.Resting.{rests}
@@ -30,43 +29,33 @@ returns-then-left-gt0-clause-makes g c =
 pub more-requires : goal.more-requires
 more-requires g c =
     let job = job_view g.R.Region.seen g.B.Block.seen g.B.Block.number c.args.job in
-    let came = came-apart (held_of g.R.Region.seen) g.B.Block.seen g.B.Block.number
-    c.place-place.result job.place c.into_parts-live.result.0 (request_in c.args.job)
-    c.into_parts-live.result.1 c.into_parts-live.result.2 c.tile_from-first.result
-    c.tile_from-second.result c.args.job.first c.args.job.second c.place-place.ensures
-    c.into_parts-live.ensures.request c.into_parts-live.ensures.first
-    c.into_parts-live.ensures.second
-    c.tile_from-first.ensures c.tile_from-second.ensures in
+    let came = c.take_apart-place.ensures in
     has-out (held_of g.R.Region.seen) (seens_of g.R.Region.seen) g.B.Block.seen
-    (view_of c.args.self.now.tracker) c.place-place.result job.place c.into_parts-live.result.0
-    (held_back job) c.tile_from-first.result c.tile_from-second.result (tile_back job.first)
-    (tile_back job.second) came c.requires.out
+    (view_of c.args.self.now.tracker) c.take_apart-place.result.0 job.place
+    c.take_apart-place.result.1
+    (held_back job) c.take_apart-place.result.2 c.take_apart-place.result.3 (tile_back job.first)
+    (tile_back job.second) came c.requires.out.out
 
 pub returns-then-not-is_last-clause-finishes : goal.returns-then-not-is_last-clause-finishes
 returns-then-not-is_last-clause-finishes g c =
     let job = job_view g.R.Region.seen g.B.Block.seen g.B.Block.number c.args.job in
     let old = state_view g.R.Region.seen g.B.Block.seen c.args.self.now in
-    let came = came-apart (held_of g.R.Region.seen) g.B.Block.seen g.B.Block.number
-    c.place-place.result job.place c.into_parts-live.result.0 (request_in c.args.job)
-    c.into_parts-live.result.1 c.into_parts-live.result.2 c.tile_from-first.result
-    c.tile_from-second.result c.args.job.first c.args.job.second c.place-place.ensures
-    c.into_parts-live.ensures.request c.into_parts-live.ensures.first
-    c.into_parts-live.ensures.second
-    c.tile_from-first.ensures c.tile_from-second.ensures in
+    let came = c.take_apart-place.ensures in
     let none : steps_left job ≡ 0 =
     sym c.left.ensures ∙ none-left c.left.result c.if-left-gt0.false in
     let last = last-told (held_of g.R.Region.seen) (seens_of g.R.Region.seen) g.B.Block.seen
     (view_of c.args.self.now.tracker) job.place
-    ∙ (ap (λ (p : ℕ). is_last (view_of c.args.self.now.tracker) p) (sym c.place-place.ensures)
+    ∙ (ap (λ (p : ℕ). is_last (view_of c.args.self.now.tracker) p) (sym came.place_is)
     ∙ (sym c.is_last.ensures ∙ c.if-not-is_last.true)) in (
       none,
       last,
       refl,
       ap (λ t. record old { tracker = t }) (more-is (held_of g.R.Region.seen)
           (seens_of g.R.Region.seen) g.B.Block.seen (view_of c.args.self.now.tracker)
-          (view_of c.more.new.self) c.place-place.result job.place c.into_parts-live.result.0
+          (view_of c.more.new.self) c.take_apart-place.result.0 job.place
+          c.take_apart-place.result.1
           (held_back job)
-          c.tile_from-first.result c.tile_from-second.result (tile_back job.first)
+          c.take_apart-place.result.2 c.take_apart-place.result.3 (tile_back job.first)
           (tile_back job.second) came c.more.ensures.view),
     )
 
@@ -85,74 +74,48 @@ close_gate-requires g c = (search rules, omega arith)
 pub retired-requires-clause-out : goal.retired-requires-clause-out
 retired-requires-clause-out g c =
     let job = job_view g.R.Region.seen g.B.Block.seen g.B.Block.number c.args.job in
-    let came = came-apart (held_of g.R.Region.seen) g.B.Block.seen g.B.Block.number
-    c.place-place.result job.place c.into_parts-live.result.0 (request_in c.args.job)
-    c.into_parts-live.result.1 c.into_parts-live.result.2 c.tile_from-first.result
-    c.tile_from-second.result c.args.job.first c.args.job.second c.place-place.ensures
-    c.into_parts-live.ensures.request c.into_parts-live.ensures.first
-    c.into_parts-live.ensures.second
-    c.tile_from-first.ensures c.tile_from-second.ensures in
+    let came = c.take_apart-place.ensures in
     has-out (held_of g.R.Region.seen) (seens_of g.R.Region.seen) g.B.Block.seen
-    (view_of c.args.self.now.tracker) c.place-place.result job.place c.into_parts-live.result.0
-    (held_back job) c.tile_from-first.result c.tile_from-second.result (tile_back job.first)
-    (tile_back job.second) came c.requires.out
+    (view_of c.args.self.now.tracker) c.take_apart-place.result.0 job.place
+    c.take_apart-place.result.1
+    (held_back job) c.take_apart-place.result.2 c.take_apart-place.result.3 (tile_back job.first)
+    (tile_back job.second) came c.requires.out.out
 
 pub applied-requires-clause-out : goal.applied-requires-clause-out
 applied-requires-clause-out g c =
     let job = job_view g.R.Region.seen g.B.Block.seen g.B.Block.number c.args.job in
-    let came = came-apart (held_of g.R.Region.seen) g.B.Block.seen g.B.Block.number
-    c.place-place.result job.place c.into_parts-live.result.0 (request_in c.args.job)
-    c.into_parts-live.result.1 c.into_parts-live.result.2 c.tile_from-first.result
-    c.tile_from-second.result c.args.job.first c.args.job.second c.place-place.ensures
-    c.into_parts-live.ensures.request c.into_parts-live.ensures.first
-    c.into_parts-live.ensures.second
-    c.tile_from-first.ensures c.tile_from-second.ensures in
+    let came = c.take_apart-place.ensures in
     has-out (held_of g.R.Region.seen) (seens_of g.R.Region.seen) g.B.Block.seen
-    (view_of c.args.self.now.tracker) c.place-place.result job.place c.into_parts-live.result.0
-    (held_back job) c.tile_from-first.result c.tile_from-second.result (tile_back job.first)
-    (tile_back job.second) came c.requires.out
+    (view_of c.args.self.now.tracker) c.take_apart-place.result.0 job.place
+    c.take_apart-place.result.1
+    (held_back job) c.take_apart-place.result.2 c.take_apart-place.result.3 (tile_back job.first)
+    (tile_back job.second) came c.requires.out.out
 
 pub put_back-requires : goal.put_back-requires
 put_back-requires g c =
     let job = job_view g.R.Region.seen g.B.Block.seen g.B.Block.number c.args.job in
-    let came = came-apart (held_of g.R.Region.seen) g.B.Block.seen g.B.Block.number
-    c.place-place.result job.place c.into_parts-live.result.0 (request_in c.args.job)
-    c.into_parts-live.result.1 c.into_parts-live.result.2 c.tile_from-first.result
-    c.tile_from-second.result c.args.job.first c.args.job.second c.place-place.ensures
-    c.into_parts-live.ensures.request c.into_parts-live.ensures.first
-    c.into_parts-live.ensures.second
-    c.tile_from-first.ensures c.tile_from-second.ensures in
+    let came = c.take_apart-place.ensures in
     has-out (held_of g.R.Region.seen) (seens_of g.R.Region.seen) g.B.Block.seen
-    (view_of c.args.self.now.tracker) c.place-place.result job.place c.into_parts-live.result.0
-    (held_back job) c.tile_from-first.result c.tile_from-second.result (tile_back job.first)
-    (tile_back job.second) came c.requires.out
+    (view_of c.args.self.now.tracker) c.take_apart-place.result.0 job.place
+    c.take_apart-place.result.1
+    (held_back job) c.take_apart-place.result.2 c.take_apart-place.result.3 (tile_back job.first)
+    (tile_back job.second) came c.requires.out.out
 
 pub size_unsure-requires : goal.size_unsure-requires
 size_unsure-requires g c =
     let job = job_view g.R.Region.seen g.B.Block.seen g.B.Block.number c.args.job in
-    let came = came-apart (held_of g.R.Region.seen) g.B.Block.seen g.B.Block.number
-    c.place-place.result job.place c.into_parts-live.result.0 (request_in c.args.job)
-    c.into_parts-live.result.1 c.into_parts-live.result.2 c.tile_from-first.result
-    c.tile_from-second.result c.args.job.first c.args.job.second c.place-place.ensures
-    c.into_parts-live.ensures.request c.into_parts-live.ensures.first
-    c.into_parts-live.ensures.second
-    c.tile_from-first.ensures c.tile_from-second.ensures in
+    let came = c.take_apart-place.ensures in
     has-out (held_of g.R.Region.seen) (seens_of g.R.Region.seen) g.B.Block.seen
-    (view_of c.args.self.now.tracker) c.place-place.result job.place c.into_parts-live.result.0
-    (held_back job) c.tile_from-first.result c.tile_from-second.result (tile_back job.first)
-    (tile_back job.second) came c.requires.out
+    (view_of c.args.self.now.tracker) c.take_apart-place.result.0 job.place
+    c.take_apart-place.result.1
+    (held_back job) c.take_apart-place.result.2 c.take_apart-place.result.3 (tile_back job.first)
+    (tile_back job.second) came c.requires.out.out
 
 pub returns-in-Ok-clause-finishes : goal.returns-in-Ok-clause-finishes
 returns-in-Ok-clause-finishes g c =
     let job = job_view g.R.Region.seen g.B.Block.seen g.B.Block.number c.args.job in
     let old = state_view g.R.Region.seen g.B.Block.seen c.args.self.now in
-    let came = came-apart (held_of g.R.Region.seen) g.B.Block.seen g.B.Block.number
-    c.place-place.result job.place c.into_parts-live.result.0 (request_in c.args.job)
-    c.into_parts-live.result.1 c.into_parts-live.result.2 c.tile_from-first.result
-    c.tile_from-second.result c.args.job.first c.args.job.second c.place-place.ensures
-    c.into_parts-live.ensures.request c.into_parts-live.ensures.first
-    c.into_parts-live.ensures.second
-    c.tile_from-first.ensures c.tile_from-second.ensures in
+    let came = c.take_apart-place.ensures in
     let none : steps_left job ≡ 0 =
     sym c.left.ensures ∙ none-left c.left.result c.if-left-gt0.false in
     let all : IsAllDone old job = record {
@@ -160,7 +123,7 @@ returns-in-Ok-clause-finishes g c =
       last = last-told (held_of g.R.Region.seen) (seens_of g.R.Region.seen) g.B.Block.seen
           (view_of c.args.self.now.tracker) job.place
           ∙ (ap (λ (p : ℕ). is_last (view_of c.args.self.now.tracker) p)
-          (sym c.place-place.ensures)
+          (sym came.place_is)
           ∙ (sym c.is_last.ensures ∙ c.if-not-is_last.false));
     } in
     let sized = sizes-are g.R.Region.obeys_power c.is_right-right.result
@@ -171,15 +134,15 @@ returns-in-Ok-clause-finishes g c =
     (c.is_right-right.ensures
     ∙ ap (λ (p : ℕ × Bool). is_right p.0 p.1 c.size_after-wanted.result) c.size.ensures)
     (c.size_after-wanted.ensures
-    ∙ (ap (λ (p : ℕ). size_after (view_of c.args.self.now.tracker) p) c.place-place.ensures
+    ∙ (ap (λ (p : ℕ). size_after (view_of c.args.self.now.tracker) p) came.place_is
     ∙ sym (size-told (held_of g.R.Region.seen) (seens_of g.R.Region.seen) g.B.Block.seen
     (view_of c.args.self.now.tracker) job.place)))
     c.in-Set.ensures in
-    let live = c.into_parts-live.result.0 in
+    let live = c.take_apart-place.result.1 in
     let slots = map g.R.Region.seen (of_slots c.in-Ok.slots) in
-    let closes = subst (λ (l : Live _ _). Closes g.R.Region.obeys_power (Ok tt)
-    (g.P.Power.asked c.set_size.new.power) (map g.R.Region.seen (regions_of l))
-    (g.P.Power.asked c.close_gate.new.power) slots) c.into_parts-live.ensures.request
+    let closes = subst (λ (s : Seens). Closes g.R.Region.obeys_power (Ok tt)
+    (g.P.Power.asked c.set_size.new.power) s
+    (g.P.Power.asked c.close_gate.new.power) slots) (ap (λ (h : Held). h.slots) came.slots_are)
     (slots-ok g.R.Region.seen (of_live live) (head_of (of_live live) (of_slots c.in-Ok.slots))
     (tails_of_live live) (of_slots c.in-Ok.slots) c.in-Ok.slots c.in-Ok.ensures.set
     c.in-Ok.ensures.slots) in
@@ -193,9 +156,10 @@ returns-in-Ok-clause-finishes g c =
       },
       ap (λ t. record old { size = size; tracker = t }) (retired-is (held_of g.R.Region.seen)
           (seens_of g.R.Region.seen) g.B.Block.seen (view_of c.args.self.now.tracker)
-          (view_of c.retired.new.self) c.place-place.result job.place c.into_parts-live.result.0
+          (view_of c.retired.new.self) c.take_apart-place.result.0 job.place
+          c.take_apart-place.result.1
           (held_back job)
-          c.tile_from-first.result c.tile_from-second.result (tile_back job.first)
+          c.take_apart-place.result.2 c.take_apart-place.result.3 (tile_back job.first)
           (tile_back job.second) came c.retired.ensures.view),
     )
 
@@ -214,13 +178,7 @@ pub returns-in-Err-clause-finishes : goal.returns-in-Err-clause-finishes
 returns-in-Err-clause-finishes g c =
     let job = job_view g.R.Region.seen g.B.Block.seen g.B.Block.number c.args.job in
     let old = state_view g.R.Region.seen g.B.Block.seen c.args.self.now in
-    let came = came-apart (held_of g.R.Region.seen) g.B.Block.seen g.B.Block.number
-    c.place-place.result job.place c.into_parts-live.result.0 (request_in c.args.job)
-    c.into_parts-live.result.1 c.into_parts-live.result.2 c.tile_from-first.result
-    c.tile_from-second.result c.args.job.first c.args.job.second c.place-place.ensures
-    c.into_parts-live.ensures.request c.into_parts-live.ensures.first
-    c.into_parts-live.ensures.second
-    c.tile_from-first.ensures c.tile_from-second.ensures in
+    let came = c.take_apart-place.ensures in
     let none : steps_left job ≡ 0 =
     sym c.left.ensures ∙ none-left c.left.result c.if-left-gt0.false in
     let all : IsAllDone old job = record {
@@ -228,7 +186,7 @@ returns-in-Err-clause-finishes g c =
       last = last-told (held_of g.R.Region.seen) (seens_of g.R.Region.seen) g.B.Block.seen
           (view_of c.args.self.now.tracker) job.place
           ∙ (ap (λ (p : ℕ). is_last (view_of c.args.self.now.tracker) p)
-          (sym c.place-place.ensures)
+          (sym came.place_is)
           ∙ (sym c.is_last.ensures ∙ c.if-not-is_last.false));
     } in
     let sized = sizes-are g.R.Region.obeys_power c.is_right-right.result
@@ -239,26 +197,26 @@ returns-in-Err-clause-finishes g c =
     (c.is_right-right.ensures
     ∙ ap (λ (p : ℕ × Bool). is_right p.0 p.1 c.size_after-wanted.result) c.size.ensures)
     (c.size_after-wanted.ensures
-    ∙ (ap (λ (p : ℕ). size_after (view_of c.args.self.now.tracker) p) c.place-place.ensures
+    ∙ (ap (λ (p : ℕ). size_after (view_of c.args.self.now.tracker) p) came.place_is
     ∙ sym (size-told (held_of g.R.Region.seen) (seens_of g.R.Region.seen) g.B.Block.seen
     (view_of c.args.self.now.tracker) job.place)))
     c.in-Set.ensures in
-    let live = c.into_parts-live.result.0 in
+    let live = c.take_apart-place.result.1 in
     let slots = map g.R.Region.seen (regions_of c.in-Err.live) in
-    let closes = subst (λ (l : Live _ _). Closes g.R.Region.obeys_power (Err tt)
-    (g.P.Power.asked c.set_size.new.power) (map g.R.Region.seen (regions_of l))
-    (g.P.Power.asked c.close_gate.new.power) slots) c.into_parts-live.ensures.request
+    let closes = subst (λ (s : Seens). Closes g.R.Region.obeys_power (Err tt)
+    (g.P.Power.asked c.set_size.new.power) s
+    (g.P.Power.asked c.close_gate.new.power) slots) (ap (λ (h : Held). h.slots) came.slots_are)
     (slots-err g.R.Region.seen (of_live live) (of_live c.in-Err.live) (tails_of_live live)
     (regions_of c.in-Err.live) c.in-Err.live c.in-Err.ensures.set c.in-Err.ensures.slots) in
     let size = g.R.Region.seen c.set_size.new.region in
     let held : Held = record { place = job.place; slots = slots } in
-    let back : CameBack (held_of g.R.Region.seen) g.B.Block.seen c.place-place.result c.in-Err.live
-    c.tile_from-first.result c.tile_from-second.result job.place held (tile_back job.first)
+    let back : CameBack (held_of g.R.Region.seen) g.B.Block.seen c.take_apart-place.result.0
+    c.in-Err.live
+    c.take_apart-place.result.2 c.take_apart-place.result.3 job.place held (tile_back job.first)
     (tile_back job.second) = record {
       place_is = came.place_is;
       slots_are = ap (λ (p : ℕ). let h : Held = record { place = p; slots = slots } in h)
-          (c.in-Err.ensures.place ∙ ap (λ (l : Live _ _). place_of l)
-          c.into_parts-live.ensures.request);
+          (c.in-Err.ensures.place ∙ ap (λ (h : Held). h.place) came.slots_are);
       first_is = came.first_is;
       second_is = came.second_is;
     } in (
@@ -274,8 +232,8 @@ returns-in-Err-clause-finishes g c =
         },
         ap (λ t. record old { size = size; tracker = t }) (applied-is (held_of g.R.Region.seen)
             (seens_of g.R.Region.seen) g.B.Block.seen (view_of c.args.self.now.tracker)
-            (view_of c.applied.new.self) c.place-place.result job.place c.in-Err.live held
-            c.tile_from-first.result c.tile_from-second.result (tile_back job.first)
+            (view_of c.applied.new.self) c.take_apart-place.result.0 job.place c.in-Err.live held
+            c.take_apart-place.result.2 c.take_apart-place.result.3 (tile_back job.first)
             (tile_back job.second) back c.applied.ensures.view),
       ),
     )
@@ -295,13 +253,7 @@ pub returns-in-Unwritten-clause-finishes : goal.returns-in-Unwritten-clause-fini
 returns-in-Unwritten-clause-finishes g c =
     let job = job_view g.R.Region.seen g.B.Block.seen g.B.Block.number c.args.job in
     let old = state_view g.R.Region.seen g.B.Block.seen c.args.self.now in
-    let came = came-apart (held_of g.R.Region.seen) g.B.Block.seen g.B.Block.number
-    c.place-place.result job.place c.into_parts-live.result.0 (request_in c.args.job)
-    c.into_parts-live.result.1 c.into_parts-live.result.2 c.tile_from-first.result
-    c.tile_from-second.result c.args.job.first c.args.job.second c.place-place.ensures
-    c.into_parts-live.ensures.request c.into_parts-live.ensures.first
-    c.into_parts-live.ensures.second
-    c.tile_from-first.ensures c.tile_from-second.ensures in
+    let came = c.take_apart-place.ensures in
     let none : steps_left job ≡ 0 =
     sym c.left.ensures ∙ none-left c.left.result c.if-left-gt0.false in
     let all : IsAllDone old job = record {
@@ -309,7 +261,7 @@ returns-in-Unwritten-clause-finishes g c =
       last = last-told (held_of g.R.Region.seen) (seens_of g.R.Region.seen) g.B.Block.seen
           (view_of c.args.self.now.tracker) job.place
           ∙ (ap (λ (p : ℕ). is_last (view_of c.args.self.now.tracker) p)
-          (sym c.place-place.ensures)
+          (sym came.place_is)
           ∙ (sym c.is_last.ensures ∙ c.if-not-is_last.false));
     } in
     let sized = sizes-are g.R.Region.obeys_power c.is_right-right.result
@@ -320,7 +272,7 @@ returns-in-Unwritten-clause-finishes g c =
     (c.is_right-right.ensures
     ∙ ap (λ (p : ℕ × Bool). is_right p.0 p.1 c.size_after-wanted.result) c.size.ensures)
     (c.size_after-wanted.ensures
-    ∙ (ap (λ (p : ℕ). size_after (view_of c.args.self.now.tracker) p) c.place-place.ensures
+    ∙ (ap (λ (p : ℕ). size_after (view_of c.args.self.now.tracker) p) came.place_is
     ∙ sym (size-told (held_of g.R.Region.seen) (seens_of g.R.Region.seen) g.B.Block.seen
     (view_of c.args.self.now.tracker) job.place)))
     c.in-Unwritten.ensures in
@@ -332,9 +284,10 @@ returns-in-Unwritten-clause-finishes g c =
         sized,
         ap (λ t. record old { size = size; tracker = t }) (put-back-is (held_of g.R.Region.seen)
             (seens_of g.R.Region.seen) g.B.Block.seen (view_of c.args.self.now.tracker)
-            (view_of c.put_back.new.self) c.place-place.result job.place c.into_parts-live.result.0
+            (view_of c.put_back.new.self) c.take_apart-place.result.0 job.place
+            c.take_apart-place.result.1
             (held_back job)
-            c.tile_from-first.result c.tile_from-second.result (tile_back job.first)
+            c.take_apart-place.result.2 c.take_apart-place.result.3 (tile_back job.first)
             (tile_back job.second) came c.put_back.ensures.view),
       ),
     )
@@ -354,13 +307,7 @@ pub returns-in-Unkept-clause-finishes : goal.returns-in-Unkept-clause-finishes
 returns-in-Unkept-clause-finishes g c =
     let job = job_view g.R.Region.seen g.B.Block.seen g.B.Block.number c.args.job in
     let old = state_view g.R.Region.seen g.B.Block.seen c.args.self.now in
-    let came = came-apart (held_of g.R.Region.seen) g.B.Block.seen g.B.Block.number
-    c.place-place.result job.place c.into_parts-live.result.0 (request_in c.args.job)
-    c.into_parts-live.result.1 c.into_parts-live.result.2 c.tile_from-first.result
-    c.tile_from-second.result c.args.job.first c.args.job.second c.place-place.ensures
-    c.into_parts-live.ensures.request c.into_parts-live.ensures.first
-    c.into_parts-live.ensures.second
-    c.tile_from-first.ensures c.tile_from-second.ensures in
+    let came = c.take_apart-place.ensures in
     let none : steps_left job ≡ 0 =
     sym c.left.ensures ∙ none-left c.left.result c.if-left-gt0.false in
     let all : IsAllDone old job = record {
@@ -368,7 +315,7 @@ returns-in-Unkept-clause-finishes g c =
       last = last-told (held_of g.R.Region.seen) (seens_of g.R.Region.seen) g.B.Block.seen
           (view_of c.args.self.now.tracker) job.place
           ∙ (ap (λ (p : ℕ). is_last (view_of c.args.self.now.tracker) p)
-          (sym c.place-place.ensures)
+          (sym came.place_is)
           ∙ (sym c.is_last.ensures ∙ c.if-not-is_last.false));
     } in
     let sized = sizes-are g.R.Region.obeys_power c.is_right-right.result
@@ -379,7 +326,7 @@ returns-in-Unkept-clause-finishes g c =
     (c.is_right-right.ensures
     ∙ ap (λ (p : ℕ × Bool). is_right p.0 p.1 c.size_after-wanted.result) c.size.ensures)
     (c.size_after-wanted.ensures
-    ∙ (ap (λ (p : ℕ). size_after (view_of c.args.self.now.tracker) p) c.place-place.ensures
+    ∙ (ap (λ (p : ℕ). size_after (view_of c.args.self.now.tracker) p) came.place_is
     ∙ sym (size-told (held_of g.R.Region.seen) (seens_of g.R.Region.seen) g.B.Block.seen
     (view_of c.args.self.now.tracker) job.place)))
     c.in-Unkept.ensures in
@@ -391,9 +338,9 @@ returns-in-Unkept-clause-finishes g c =
         sized,
         ap (λ t. record old { size = size; tracker = t }) (unsure-is (held_of g.R.Region.seen)
             (seens_of g.R.Region.seen) g.B.Block.seen (view_of c.args.self.now.tracker)
-            (view_of c.size_unsure.new.self) c.place-place.result job.place
-            c.into_parts-live.result.0 (held_back job)
-            c.tile_from-first.result c.tile_from-second.result (tile_back job.first)
+            (view_of c.size_unsure.new.self) c.take_apart-place.result.0 job.place
+            c.take_apart-place.result.1 (held_back job)
+            c.take_apart-place.result.2 c.take_apart-place.result.3 (tile_back job.first)
             (tile_back job.second) came c.size_unsure.ensures.view),
       ),
     )

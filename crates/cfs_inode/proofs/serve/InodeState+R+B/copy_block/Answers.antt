@@ -1,4 +1,5 @@
 use Rattle.std.proofs.Common.{◌≡◌, ◌∙◌, ◌+◌, ◌++◌, ap, get_or, length, subst, sym}
+use Rattle.std.proofs.lemmas.Result.{on_ok_weaker}
 use Rattle.cfs_pmem.specs.Operations.{all_allowed}
 use Rattle.cfs_block.specs.BlockImages.{content_of}
 use Rattle.cfs_tracker.specs.declared.cell.Cell.TheVariants as kinds
@@ -7,7 +8,7 @@ use Rattle.cfs_tracker.specs.View.{view_of}
 use Rattle.cfs_inode.specs.Serves.{Reads, home_byte, home_device, read_ask}
 use Rattle.cfs_inode.specs.View.{state_view, told_cell}
 use Rattle.cfs_inode.proofs.Copies.{away-byte, away-device, bytes-read, cell-seen, home-is}
-use Rattle.cfs_inode.proofs.Copies.{none-under, ok-also, some-home, state-read-back}
+use Rattle.cfs_inode.proofs.Copies.{none-under, some-home, state-read-back}
 use Rattle.cfs_inode.proofs.ReadSteps.{read-once}
 use Rattle.cfs_inode.proofs.Resting.{rests}
 use Rattle.cfs_inode.proofs.Serving.{read-makes}
@@ -65,7 +66,7 @@ returns-clause-bytes g c =
     ∙ ap (told_cell g.B.Block.seen)
     (home-is cell c.in-Some.home (sym c.is_home.ensures.home ∙ c.if-not-is_home.false)
     (sym c.in-Some.is ∙ c.take_block.ensures.block)) in
-    ok-also c.read-done.result
+    on_ok_weaker c.read-done.result
     (λ read i less.
     bytes-read (content_of seen).bytes c.read-done.new.out c.args.from (length c.args.out.now) i
     read less

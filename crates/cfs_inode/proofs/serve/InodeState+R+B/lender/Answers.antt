@@ -6,7 +6,7 @@ use Rattle.cfs_tracker.specs.View.{view_of}
 use Rattle.cfs_inode.specs.Serves.{end_block, first_lender}
 use Rattle.cfs_inode.specs.View.{state_view}
 use Rattle.cfs_inode.proofs.ReadSteps.{range-one}
-use Rattle.cfs_inode.proofs.Works.{holder-told}
+use Rattle.cfs_inode.proofs.JobTells.{holder-told}
 use Rattle.cfs_inode.proofs.serve.InodeState+R+B.lender.Goals as goal
 
 pub returns-in-Some : goal.returns-in-Some
