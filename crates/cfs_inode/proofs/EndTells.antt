@@ -1,6 +1,7 @@
 -- What becomes of a change whose job comes back is told of a tracker as it is.
 use Rattle.std.proofs.Common.{◌≡◌, ◌∙◌, ◌||◌, ap, is_none, List, map, Option}
 use Rattle.std.proofs.Common.{None, Some, refl, subst, sym, true, false, ℕ, Bool}
+use Rattle.std.proofs.lemmas.List.{map-set}
 use Rattle.std.specs.Option.{option_map}
 use Rattle.cfs_core.specs.Words.{sized}
 use Rattle.cfs_pmem.specs.Images.{Seen}
