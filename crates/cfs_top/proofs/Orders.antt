@@ -1,5 +1,7 @@
 -- A run keeps the order of its lines.
-use Rattle.std.proofs.Common.{◌≡◌, ℕ, ◌+◌, ◌≤◌, ◌==◌, Some, List, [], ◌∷◌, ◌++◌, length, map, take, max, arith, refl, sym, ap, ◌∙◌, append_assoc, append-nil, length-append, Bool, true, false, cond}
+use Rattle.std.proofs.Common.{◌≡◌, ℕ, ◌+◌, ◌≤◌, ◌==◌, Some, List, [], ◌∷◌, ◌++◌, length, map, take}
+use Rattle.std.proofs.Common.{max, arith, refl, sym, ap, ◌∙◌, append_assoc, append-nil}
+use Rattle.std.proofs.Common.{length-append, Bool, true, false, cond}
 use Rattle.std.specs.declared.option.Option.{Option}
 use Rattle.std.specs.Option.{option_to_list}
 use Rattle.std.specs.Prelude.{◌&&◌, nat_le}
