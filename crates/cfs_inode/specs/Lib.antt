@@ -19,3 +19,4 @@ pub mod Tagging
 pub mod Mapping
 pub mod Placing
 pub mod Admitting
+pub mod JobSteps

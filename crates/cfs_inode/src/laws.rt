@@ -1,6 +1,7 @@
 //! What holds of states and their jobs beside their calls, as contracts of functions that do
 //! nothing.
 
+ghost use Rattle.cfs_inode.specs.JobSteps.{JobStepsAreEvents};
 ghost use Rattle.cfs_inode.specs.Knows.{JobsAreOut, StandingAreReady, TakenAreOut};
 
 /// What `dispatch` asks for holds of each state that stands.
@@ -16,4 +17,10 @@ pub fn jobs_are_out()
 /// And so it holds of a job that `dispatch` gave out.
 pub fn taken_are_out()
     ensures { TakenAreOut }
+{}
+
+/// A step of a job that is out is one event of the core, beside the state that gave the job out and
+/// beside its other jobs.
+pub fn job_steps_are_events()
+    ensures { JobStepsAreEvents }
 {}

@@ -39,7 +39,7 @@ pub use admit_answer::AdmitAnswer;
 pub use answers::{CloseAnswer, ServeAnswer};
 pub use dispatch_answer::DispatchAnswer;
 pub use finish_answer::FinishAnswer;
-pub use laws::{jobs_are_out, standing_are_ready, taken_are_out};
+pub use laws::{job_steps_are_events, jobs_are_out, standing_are_ready, taken_are_out};
 pub use mapped::Mapped;
 pub use mark_answer::MarkAnswer;
 pub use state::{InodeState, State};
