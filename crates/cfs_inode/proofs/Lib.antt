@@ -40,3 +40,10 @@ pub mod Mappings
 pub mod MapTells
 pub mod Placings
 pub mod Admittings
+pub mod Stepping
+pub mod StepPieces
+pub mod StepAsks
+pub mod Running
+pub mod StepWrites
+pub mod StepFlushes
+pub mod JobSteps
