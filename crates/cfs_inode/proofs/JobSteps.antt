@@ -1,6 +1,7 @@
 -- A device step of a job that is out is one event of the core.
 use Rattle.std.proofs.Common.{◌≡◌, ◌∙◌, ap, length, List, [], ◌∷◌, Option, None, Some, Result}
-use Rattle.std.proofs.Common.{Ok, Err, is_ok, refl, subst, sym, true, ℕ, Bool, drop, take, if◌then◌else◌}
+use Rattle.std.proofs.Common.{Ok, Err, is_ok, refl, subst, sym, true, ℕ, Bool, drop, take}
+use Rattle.std.proofs.Common.{if◌then◌else◌}
 use Rattle.cfs_file.specs.declared.sizes.TheConstants.{BLOCK_LEN}
 use Rattle.cfs_core.specs.declared.event.Event.{Event}
 use Rattle.cfs_core.specs.declared.event.Event.TheVariants as events

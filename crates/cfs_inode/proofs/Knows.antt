@@ -126,7 +126,8 @@ pub record IsHeldOpen (ino place : ℕ) (t : Track) (core : Core) (seens : Seens
   pub held : Holding
   pub gate : held.gate ≡ On
   pub request : held.request ≡ option_map (λ e. placed t.span e.request) (entry_of core.log place)
-  pub fits : (slots : List (List ℕ)) → IsEachImage IsImage seens slots → SlotFits ino place held slots
+  pub fits : (slots : List (List ℕ)) → IsEachImage IsImage seens slots →
+      SlotFits ino place held slots
 
 gated-at : (ino place : ℕ) (held : Holding) (slots : List (List ℕ)) → held.gate ≡ On →
     SlotFits ino place held slots → is_gated (head_words slots) ≡ true

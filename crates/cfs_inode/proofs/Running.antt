@@ -139,8 +139,9 @@ running state job jobs k core world together own =
     ap (λ (u : Track). is_live u.state) (sym here) ∙ ap (λ s. is_live s) stand.state in
     let change : is_changing (slice_get core.log (place - 1)) ≡ true =
     all.kept.logged.live_changes (place - 1) live in
+    let some : place ≡ 0 → ⊥ = comes.some in
     let there : entry_of core.log place ≡ slice_get core.log (place - 1) =
-    (let test : (place == 0) ≡ false = grind (arith, nat_tests, comes.some) in rw test refl) in
+    (let test : (place == 0) ≡ false = grind (arith, nat_tests) in rw test refl) in
     let request : option_map (λ (e : Entry). placed t.span e.request)
     (slice_get core.log (place - 1)) ≡ Some (request_seen job.slots) =
     ap (λ (o : Option Entry). option_map (λ (e : Entry). placed t.span e.request) o) (sym there)

@@ -39,7 +39,11 @@ found (seen ∷ seens) device h =
       | inl here ↦ record { index = zero; within_ = omega arith; own = here }
       | inr there ↦
           let later = found seens device there in
-          record { index = suc later.index; within_ = omega (arith, later.within_); own = later.own }
+          record {
+            index = suc later.index;
+            within_ = omega (arith, later.within_);
+            own = later.own;
+          }
     ]
 
 -- one step of one of them

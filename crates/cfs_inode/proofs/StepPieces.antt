@@ -6,7 +6,7 @@ use Rattle.cfs_file.specs.declared.sizes.TheConstants.{BLOCK_LEN}
 use Rattle.cfs_file.specs.declared.span.Span.{Span}
 use Rattle.cfs_pmem.specs.declared.trace.Asked.{Asked}
 use Rattle.cfs_pmem.specs.Images.{Seen, WordStep, patched}
-use Rattle.cfs_block.specs.BlockImages.{BlockStep, content_of, with_bytes}
+use Rattle.cfs_block.specs.BlockImages.{BlockStep, Content, content_of, with_bytes}
 use Rattle.cfs_job.specs.Ops.{count_in, place_in}
 use Rattle.cfs_job.specs.Stands.{IsSpanOf, is_touched}
 use Rattle.cfs_job.specs.Steps.{Writes}
@@ -58,7 +58,7 @@ torn-left s was now touched full torn =
     let room : place + length torn.left ≤ length bytes =
     omega (arith, p.fits, full, torn.size) in
     let here : (content_of now.seen).bytes ≡ patched bytes place torn.left =
-    ap (λ c. c.bytes) torn.is in
+    ap (λ (c : Content). c.bytes) torn.is in
     let same : torn.left ≡ take (count_in s was.at) (drop place (content_of now.seen).bytes) =
     sym (ap (λ xs. take (count_in s was.at) (drop place xs)) here
     ∙ ap (λ n. take n (drop place (patched bytes place torn.left))) (sym torn.size)

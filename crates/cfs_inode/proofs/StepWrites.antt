@@ -15,7 +15,8 @@ use Rattle.cfs_core.specs.declared.track.Track.{Track}
 use Rattle.cfs_core.specs.After.{after}
 use Rattle.cfs_core.specs.Jobs.{job_written, state_written}
 use Rattle.cfs_core.specs.May.{is_in_phase, may, may_flush, may_write}
-use Rattle.cfs_core.specs.Words.{block_span, end_in, has_block, payload_at, piece_in, start_in, track}
+use Rattle.cfs_core.specs.Words.{block_span, end_in, has_block, payload_at, piece_in}
+use Rattle.cfs_core.specs.Words.{start_in, track}
 use Rattle.cfs_core.proofs.Legal.{and_all, both}
 use Rattle.cfs_core.proofs.Marks.{track_beside}
 use Rattle.cfs_core_laws.specs.Reached.IsReached.{comes}
@@ -24,7 +25,8 @@ use Rattle.cfs_pmem.specs.declared.trace.Asked.{Asked}
 use Rattle.cfs_pmem.specs.Images.{Seen, devices_of}
 use Rattle.cfs_pmem.specs.Moments.{Moments}
 use Rattle.cfs_pmem.proofs.AllMomentLemmas.{all_after, all_weaker}
-use Rattle.cfs_block.specs.BlockImages.{BlockStep, IsBlockImage, IsRangedFrom, content_of, with_bytes}
+use Rattle.cfs_block.specs.BlockImages.{BlockStep, IsBlockImage, IsRangedFrom, content_of}
+use Rattle.cfs_block.specs.BlockImages.{with_bytes}
 use Rattle.cfs_slot.specs.Payload.{AsksOnly}
 use Rattle.cfs_job.specs.Ops.{count_in, place_in}
 use Rattle.cfs_job.specs.Steps.{core_job}
@@ -77,7 +79,7 @@ may-write job k None bytes piece core is span long same up =
 may-write job k (Some left) bytes piece core is span long same up =
     let t = track core.tracks job.place in
     let own : length left ≡ end_in t.span k - start_in t.span k =
-    ap (λ xs. length xs) (sym same) ∙ (long
+    ap (λ (xs : List ℕ). length xs) (sym same) ∙ (long
     ∙ ap (λ s. end_in s k - start_in s k) (sym span)) in
     and_all (not core.crashed) (may_write core job.place k (Some left)) (ap not up)
     (and_all (may_flush core job.place k)

@@ -16,6 +16,7 @@ use Rattle.cfs_job.specs.Views.{JobView, TileView}
 use Rattle.cfs_medium.specs.Shows.{Shows}
 use Rattle.cfs_medium.specs.World.{World}
 use Rattle.cfs_medium.specs.WorldCalls.{HasBlock}
+use Rattle.cfs_tracker.specs.declared.cell.Cell.{Cell}
 use Rattle.cfs_tracker.specs.declared.cell.Cell.TheVariants as kinds
 use Rattle.cfs_tracker.specs.Cells.{cell_at, held_in}
 use Rattle.cfs_tracker.specs.Follows.{Follows}
@@ -123,7 +124,7 @@ job-apart : (state : StateView) (old job : JobView) (core : Core) (world : World
 job-apart state old job core world at follows stand other has apart block own same =
     let mine = lent-to state old core world at follows stand has in
     let theirs = lent-to state job core world block follows other own in
-    let both : kinds.Lent {B = Seen BlockStep} job.place ≡ kinds.Lent old.place =
+    let both : ◌≡◌ {A = Cell (Seen BlockStep)} (kinds.Lent job.place) (kinds.Lent old.place) =
     sym theirs ∙ (ap (λ (k : ℕ). cell_at state.tracker.cells k) same ∙ mine) in
     apart (let equal : job.place ≡ old.place = cc in equal)
 
@@ -134,7 +135,8 @@ other-stays : (state : StateView) (old new job : JobView) (at : ℕ) (was now : 
     JobStands state.ino job core world → JobStands state.ino job next after
 other-stays state old new job at was now core next world after steps follows stand apart other =
     let same = steps.tracks job.place apart in
-    let beside = job-apart state old job core world at follows stand other steps.stepped.has apart in
+    let beside = job-apart state old job core world at follows stand other steps.stepped.has apart
+    in
     record {
       ino_is = other.ino_is;
       state = ap (λ (t : Track). t.state) same ∙ other.state;

@@ -41,9 +41,9 @@ turn_events turns.Nothing ok old new = []
 -- A step of a job is these events, whichever state gave the job out and whichever other jobs are
 -- beside it.
 abbrev pub StepMakes : List Event → List Asked → JobView → List Asked → JobView → Type 0
-StepMakes events asked_old old asked_new new =
+StepMakes made asked_old old asked_new new =
     (state : StateView) (jobs : List JobView) →
-    Makes state.ino (Together state (old ∷ jobs)) events asked_old asked_new
+    Makes state.ino (Together state (old ∷ jobs)) made asked_old asked_new
     (Together state (new ∷ jobs))
 
 -- So is each step that a job makes, whether it goes well or not.
