@@ -26,8 +26,8 @@ use Rattle.cfs_medium.proofs.LiveLeft.{shown-recovers}
 use Rattle.cfs_inode.specs.JobSteps.{JobStepsAreEvents, StepMakes, left_by, turn_events}
 use Rattle.cfs_inode.specs.Stands.{Together}
 use Rattle.cfs_inode.proofs.Goods.{good}
-use Rattle.cfs_inode.proofs.Running.{IsRunning, ascending, running}
-use Rattle.cfs_inode.proofs.StepFlushes.{IsFlush, flush-made, stalled-made}
+use Rattle.cfs_inode.proofs.Running.{ascending, running}
+use Rattle.cfs_inode.proofs.StepFlushes.{flush-made, stalled-made}
 use Rattle.cfs_inode.proofs.StepPieces.{failed-left}
 use Rattle.cfs_inode.proofs.StepWrites.{write-made}
 use Rattle.cfs_inode.proofs.Stepping.{IsStepped, first-stepped, second-stepped}

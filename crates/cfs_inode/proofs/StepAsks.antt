@@ -1,5 +1,5 @@
 -- The reads of a job's slots, as moments of its devices.
-use Rattle.std.proofs.Common.{◌≡◌, ◌∙◌, ◌+◌, ◌<◌, ◌⊎◌, ◌++◌, ap, arith, inl, inr, length, List}
+use Rattle.std.proofs.Common.{◌≡◌, ◌+◌, ◌<◌, ◌⊎◌, ◌++◌, arith, inl, inr, length, List}
 use Rattle.std.proofs.Common.{[], ◌∷◌, refl, subst, sym, ℕ, zero, suc}
 use Rattle.std.specs.List.{flat_map}
 use Rattle.std.proofs.lemmas.List.{set-get_or}

@@ -1,6 +1,6 @@
 -- A job flushes a block, or fails to.
-use Rattle.std.proofs.Common.{◌≡◌, ◌∙◌, ◌+◌, ◌-◌, ◌<◌, ◌≤◌, ap, arith, length, List, [], ◌∷◌}
-use Rattle.std.proofs.Common.{Err, Ok, Some, refl, set, subst, sym, true, false, not, ℕ, Bool}
+use Rattle.std.proofs.Common.{◌≡◌, ◌∙◌, ◌+◌, ◌-◌, ◌≤◌, ap, arith, length, List, [], ◌∷◌}
+use Rattle.std.proofs.Common.{Err, Ok, Some, refl, sym, true, false, not, ℕ, Bool}
 use Rattle.std.specs.Prelude.{OnErr, OnOk}
 use Rattle.cfs_file.specs.declared.sizes.TheConstants.{BLOCK_LEN}
 use Rattle.cfs_core.specs.declared.event.Event.TheVariants as events

@@ -1,6 +1,6 @@
 -- What stands in a block behind a write that failed.
 use Rattle.std.proofs.Common.{◌≡◌, ◌∙◌, ◌+◌, ◌≤◌, ◌++◌, ap, arith, drop, inl, inr, length, List}
-use Rattle.std.proofs.Common.{Err, refl, subst, sym, take, true, ℕ, Bool}
+use Rattle.std.proofs.Common.{Err, subst, sym, take, true, ℕ, Bool}
 use Rattle.std.proofs.lemmas.List.{drop-drop, length-drop, length-take-le, take-append-drop}
 use Rattle.cfs_file.specs.declared.sizes.TheConstants.{BLOCK_LEN}
 use Rattle.cfs_file.specs.declared.span.Span.{Span}

@@ -5,7 +5,6 @@ use Rattle.std.proofs.Common.{true, false, not, ℕ, Bool}
 use Rattle.std.specs.Prelude.{is_none, nat_lt}
 use Rattle.std.specs.List.{flat_map}
 use Rattle.cfs_file.specs.declared.sizes.TheConstants.{BLOCK_LEN, FILE_BLOCKS}
-use Rattle.cfs_file.specs.declared.span.Span.{Span}
 use Rattle.cfs_core.specs.declared.event.Event.{Event}
 use Rattle.cfs_core.specs.declared.event.Event.TheVariants as events
 use Rattle.cfs_core.specs.declared.inode_core.Core.{Core}
@@ -14,7 +13,7 @@ use Rattle.cfs_core.specs.declared.state.State.TheVariants as states
 use Rattle.cfs_core.specs.declared.track.Track.{Track}
 use Rattle.cfs_core.specs.After.{after}
 use Rattle.cfs_core.specs.Jobs.{job_written, state_written}
-use Rattle.cfs_core.specs.May.{is_in_phase, may, may_flush, may_write}
+use Rattle.cfs_core.specs.May.{may, may_flush, may_write}
 use Rattle.cfs_core.specs.Words.{block_span, end_in, has_block, payload_at, piece_in}
 use Rattle.cfs_core.specs.Words.{start_in, track}
 use Rattle.cfs_core.proofs.Legal.{and_all, both}
@@ -33,19 +32,19 @@ use Rattle.cfs_job.specs.Steps.{core_job}
 use Rattle.cfs_job.specs.Views.{JobView, payload_seen}
 use Rattle.cfs_job.proofs.EventLemmas.{IsPlaced, placed_in}
 use Rattle.cfs_medium.specs.BlockEvents.{IsPiece, left_or}
-use Rattle.cfs_medium.specs.Shows.{Recovers, Shows}
+use Rattle.cfs_medium.specs.Shows.{Recovers}
 use Rattle.cfs_medium.specs.World.{Remains, World}
-use Rattle.cfs_medium.specs.WorldCalls.{WorldMoments, with_block}
+use Rattle.cfs_medium.specs.WorldCalls.{with_block}
 use Rattle.cfs_medium.proofs.LiveLeft.{shown-recovers}
 use Rattle.cfs_medium.proofs.WriteEvents.{writes-show}
 use Rattle.cfs_tracker.proofs.JobSteps.{follows-write}
 use Rattle.cfs_tracker.proofs.Tracks.{track-here}
 use Rattle.cfs_inode.specs.Makes.{AnyBetween, Made}
-use Rattle.cfs_inode.specs.Stands.{JobStands, Together}
+use Rattle.cfs_inode.specs.Stands.{Together}
 use Rattle.cfs_inode.specs.View.{StateView}
 use Rattle.cfs_inode.proofs.Blocks.{block-put}
 use Rattle.cfs_inode.proofs.Goods.{good}
-use Rattle.cfs_inode.proofs.Running.{IsRunning, running}
+use Rattle.cfs_inode.proofs.Running.{IsRunning}
 use Rattle.cfs_inode.proofs.StepAsks.{reads-moments}
 use Rattle.cfs_inode.proofs.Stepping.{IsStepped, stepped-together}
 

@@ -1,15 +1,13 @@
 -- A block of a job comes to hold something else, and all else stays.
-use Rattle.std.proofs.Common.{◌≡◌, ◌∙◌, ◌<◌, ap, arith, inl, inr, List, ◌∷◌, Option, None, Some}
+use Rattle.std.proofs.Common.{◌≡◌, ◌∙◌, ◌<◌, ap, arith, List, ◌∷◌, Option, None, Some}
 use Rattle.std.proofs.Common.{refl, subst, sym, true, ℕ}
 use Rattle.std.proofs.lemmas.Bool.{ltb-true}
-use Rattle.cfs_file.specs.declared.sizes.TheConstants.{FILE_BLOCKS}
 use Rattle.cfs_pmem.specs.Images.{Seen}
 use Rattle.cfs_block.specs.BlockImages.{BlockStep}
 use Rattle.cfs_core.specs.declared.inode_core.Core.{Core}
 use Rattle.cfs_core.specs.declared.state.State.TheVariants as states
 use Rattle.cfs_core.specs.declared.track.Track.{Track}
 use Rattle.cfs_core.specs.Words.{has_block, track}
-use Rattle.cfs_core.proofs.Order.{same_or_not}
 use Rattle.cfs_core_laws.specs.Order.{ascends}
 use Rattle.cfs_job.specs.Steps.{core_job, lease_in}
 use Rattle.cfs_job.specs.Views.{JobView, TileView}
