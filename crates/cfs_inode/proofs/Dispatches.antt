@@ -30,11 +30,12 @@ use Rattle.cfs_tracker.specs.declared.doing.Doing.{Doing}
 use Rattle.cfs_tracker.specs.declared.doing.Doing.TheVariants as doings
 use Rattle.cfs_tracker.specs.declared.pending.Pending.{Pending}
 use Rattle.cfs_tracker.specs.Cells.{cell_at, held_in}
-use Rattle.cfs_tracker.specs.Dispatch.{first_cell, lend, second_cell, waiting_in, waiting_slots}
+use Rattle.cfs_tracker.specs.Dispatch.{first_cell, lend, second_cell, sent, waiting_in}
+use Rattle.cfs_tracker.specs.Dispatch.{waiting_slots}
 use Rattle.cfs_tracker.specs.Admit.{is_mapped}
 use Rattle.cfs_tracker.specs.Follows.{IsDoing}
 use Rattle.cfs_tracker.proofs.Admissions.{mapped-less}
-use Rattle.cfs_tracker.specs.View.{doing, entry_at, with_entry}
+use Rattle.cfs_tracker.specs.View.{entry_at, with_entry}
 use Rattle.cfs_tracker.proofs.Entries.{at-with, here-with}
 use Rattle.cfs_tracker.proofs.Dispatching.{AreBlocks, IsTaking, follows-dispatched, job-is, job_with, lend-beside, lend-here, lend-length}
 use Rattle.cfs_tracker.proofs.Putting.{track-of}
@@ -109,9 +110,9 @@ rest-lent ino cells place (Some own) block less rest = elim (same_or_not block o
 -- ---- the state
 
 out-slots : (first second : Option ℕ) (e entry : Pending Held) (held : Held) →
-    Some (doing (doings.Out first second) e) ≡ Some entry → slots_in entry.doing ≡ Some held → ⊥
+    Some (sent first second e) ≡ Some entry → slots_in entry.doing ≡ Some held → ⊥
 out-slots first second e entry held both has =
-    let one : doing (doings.Out first second) e ≡ entry = cc in
+    let one : sent first second e ≡ entry = cc in
     let none : slots_in entry.doing ≡ None =
     ap (λ (x : Pending Held). slots_in x.doing) (sym one) in
     let clash : None ≡ Some held = sym none ∙ has in
@@ -210,7 +211,7 @@ dispatch-made old place first second job is are given asked jobs = λ core world
           size = stands.size;
           slots = λ q entry kept there has. elim (same_or_not q place) [
             | inl same ↦
-                let change = doing (doings.Out first second) in
+                let change = sent first second in
                 let at : entry_at (with_entry place change old.tracker.entries) place ≡ Some entry =
                 ap (λ p. entry_at (with_entry place change old.tracker.entries) p) (sym same)
                 ∙ there in
@@ -221,8 +222,8 @@ dispatch-made old place first second job is are given asked jobs = λ core world
                 absurd (out-slots first second is.entry entry kept (sym it ∙ at) has)
             | inr beside ↦
                 stands.slots q entry kept
-                (sym (at-with old.tracker.entries place q (doing (doings.Out first second))
-                (λ e. refl) beside) ∙ there) has
+                (sym (at-with old.tracker.entries place q (sent first second) (λ e. refl) beside)
+                ∙ there) has
           ];
           doubt = stands.doubt;
           blocks = λ block seen within has.

@@ -1,7 +1,6 @@
 -- What becomes of a change whose job comes back is told of a tracker as it is.
-use Rattle.std.proofs.Common.{◌≡◌, ◌∙◌, ◌||◌, ap, inl, inr, is_none, List, [], ◌∷◌, map, Option}
+use Rattle.std.proofs.Common.{◌≡◌, ◌∙◌, ◌||◌, ap, is_none, List, map, Option}
 use Rattle.std.proofs.Common.{None, Some, refl, subst, sym, true, false, ℕ, Bool}
-use Rattle.std.proofs.lemmas.Bool.{cases_Bool}
 use Rattle.std.proofs.lemmas.List.{map-set}
 use Rattle.std.specs.Option.{option_map}
 use Rattle.cfs_core.specs.Words.{sized}
@@ -20,11 +19,11 @@ use Rattle.cfs_tracker.specs.Dispatch.{next_cell}
 use Rattle.cfs_tracker.specs.Finish.{IsOut, applied, applied_entry, blocks_in, blocks_out}
 use Rattle.cfs_tracker.specs.Finish.{done_with, home, is_last, is_last_of, more, more_entry}
 use Rattle.cfs_tracker.specs.Finish.{number_of, put_back, retired, size_after, size_unsure, span_in}
-use Rattle.cfs_tracker.specs.View.{TrackerView, doing, entry_at, is_at, with_entry, without}
+use Rattle.cfs_tracker.specs.View.{TrackerView, doing, entry_at, with_entry, without}
 use Rattle.cfs_inode.specs.Backs.{CameBack, tile_back, tile_from, told_tile}
 use Rattle.cfs_inode.specs.View.{Held, told, told_cell, told_doing, told_entry}
 use Rattle.cfs_inode.proofs.JobTells.{next-told}
-use Rattle.cfs_inode.proofs.Tells.{at-told, with-told, without-told}
+use Rattle.cfs_inode.proofs.Tells.{at-told, with-told, with-told-by, without-told}
 
 -- ---- the job's blocks
 
@@ -117,18 +116,6 @@ size-told live doubt block view place =
     ∙ span-told live (entry_at view.entries place))
 
 -- ---- what becomes of it
-
-with-told-by : {S T : Type 0} (tell : S → T) (es : List (Pending S)) (place : ℕ)
-    (change : Pending S → Pending S) (other : Pending T → Pending T) →
-    ((e : Pending S) → told_entry tell (change e) ≡ other (told_entry tell e)) →
-    map (told_entry tell) (with_entry place change es)
-    ≡ with_entry place other (map (told_entry tell) es)
-with-told-by tell [] place change other same = refl
-with-told-by tell (x ∷ xs) place change other same = elim (cases_Bool (is_at place x)) [
-  | inl own ↦ rw own (ap (λ y. y ∷ map (told_entry tell) xs) (same x))
-  | inr beside ↦
-      rw beside (ap (λ ys. told_entry tell x ∷ ys) (with-told-by tell xs place change other same))
-]
 
 -- the entries, the blocks and the size of a tracker are told
 rebuilt : {S D B T E C : Type 0} (live : S → T) (doubt : D → E) (block : B → C)

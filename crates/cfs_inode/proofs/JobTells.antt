@@ -16,14 +16,15 @@ use Rattle.cfs_tracker.specs.Cells.{cell_at}
 use Rattle.cfs_tracker.specs.Dispatch.{ahead, dispatched, first_cell, holder, is_ahead}
 use Rattle.cfs_tracker.specs.Dispatch.{is_read_ahead, are_still, is_still, is_waiting_doing}
 use Rattle.cfs_tracker.specs.Dispatch.{is_wanted_cell, lend, lent_to, lesser, next_cell, read_place}
-use Rattle.cfs_tracker.specs.Dispatch.{second_cell, step_at, step_behind, step_of, step_of_blocks}
+use Rattle.cfs_tracker.specs.Dispatch.{second_cell, sent, step_at, step_behind, step_of}
+use Rattle.cfs_tracker.specs.Dispatch.{step_of_blocks}
 use Rattle.cfs_tracker.specs.Dispatch.{waiting_in, waiting_slots}
-use Rattle.cfs_tracker.specs.View.{TrackerView, doing, entry_at, with_entry}
+use Rattle.cfs_tracker.specs.View.{TrackerView, entry_at, with_entry}
 use Rattle.cfs_tracker.proofs.Dispatching.{find-alike, still-held}
 use Rattle.cfs_inode.specs.View.{told, told_cell, told_doing, told_entry}
 use Rattle.cfs_inode.proofs.Cases.{cell-told, first-told, lent-told, live-told, mapped-at}
 use Rattle.cfs_inode.proofs.Cases.{waiting-told}
-use Rattle.cfs_inode.proofs.Tells.{at-told, with-told}
+use Rattle.cfs_inode.proofs.Tells.{at-told, with-told-by}
 
 -- ---- the blocks
 
@@ -165,10 +166,9 @@ told-dispatched live doubt block place first second view =
     ap (λ es. record (told live doubt block view) {
       entries = es;
       cells = map (told_cell block) (lend place second (lend place first view.cells));
-    }) (with-told live view.entries place (doings.Out first second))
+    }) (with-told-by live view.entries place (sent first second) (sent first second) (λ e. refl))
     ∙ ap (λ cells. record (told live doubt block view) {
-      entries = with_entry place (doing (doings.Out first second))
-          (map (told_entry live) view.entries);
+      entries = with_entry place (sent first second) (map (told_entry live) view.entries);
       cells = cells;
     }) (lend-told block (lend place first view.cells) place second
     ∙ ap (λ cells. lend place second cells) (lend-told block view.cells place first))

@@ -40,6 +40,8 @@ pub mod Mappings
 pub mod MapTells
 pub mod Placings
 pub mod Admittings
+pub mod Noting
+pub mod Purges
 pub mod Stepping
 pub mod StepPieces
 pub mod StepAsks

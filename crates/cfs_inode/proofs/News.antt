@@ -9,7 +9,7 @@ use Rattle.std.specs.List.{list_all}
 use Rattle.std.proofs.lemmas.Grind.{get_or-set_at}
 use Rattle.std.proofs.lemmas.List.{get_or-set_other, length-replicate, length-set, map-set}
 use Rattle.cfs_file.specs.declared.sizes.TheConstants.{BLOCK_LEN, FILE_BLOCKS}
-use Rattle.cfs_pmem.specs.Images.{IsImage, IsSure, Seen, WordStep, words_of}
+use Rattle.cfs_pmem.specs.Images.{AllImages, IsImage, IsSure, Seen, WordStep, words_of}
 use Rattle.cfs_pmem.specs.Objects.{IsEachImage}
 use Rattle.cfs_block.specs.BlockImages.{BlockStep, Content, IsSureBlock, content_of}
 use Rattle.cfs_core.specs.declared.flag.Flag.{Flag}
@@ -198,13 +198,17 @@ block-shown ino block (Some seen) tag loose bytes is kept alike =
       reads = λ h. alike seen refl;
     }
 
+-- the size word is this in every image
+pub record HasSize (size : Seen WordStep) (stored : ℕ) : Type 0 where
+  pub images : AllImages size (λ image. get_or image 0 0 ≡ stored)
+  pub now : get_or (words_of size) 0 0 ≡ stored
+
 shown : (ino : ℕ) (size : Seen WordStep) (stored : ℕ) (blocks : List MappedSeen) (core : Core) →
-    IsStored ino size stored blocks → HasFile core stored blocks →
+    HasSize size stored → AreMapped ino 0 blocks → HasFile core stored blocks →
     Shows ino core (stored_world size blocks)
-shown ino size stored blocks core given file =
+shown ino size stored blocks core sized mapped file =
     let fresh = file.fresh in
-    let now : get_or (words_of size) 0 0 ≡ core.size =
-    given.size_is ∙ sym file.long ∙ sym fresh.size in
+    let own : stored ≡ core.size = sym file.long ∙ sym fresh.size in
     record {
       shape = record {
         tags = fresh.blocks;
@@ -214,17 +218,16 @@ shown ino size stored blocks core given file =
             (let none : is_loose core.loose position ≡ false = rw fresh.loose refl in cc);
       };
       sizes = λ words image.
-          let same : get_or words 0 0 ≡ core.size =
-          ap (λ ws. get_or ws 0 0) (given.sure words image) ∙ now in
+          let same : get_or words 0 0 ≡ core.size = sized.images words image ∙ own in
           rw same (size-is core);
-      size_now = now;
+      size_now = sized.now ∙ own;
       slots = λ place. rw fresh.doubt (no-slots ino place (holding core None place)
           (ap (λ ts. (track ts place).gate) fresh.tracks ∙ ap (λ (t : Track). t.gate)
           (blank-track place)));
       blocks = λ block less.
           block-shown ino block (seen_for blocks block) (get_or core.tags block Off) core.loose
           core.bytes (file.tags block less)
-          (λ seen is. seen-kept ino 0 blocks block seen given.mapped is)
+          (λ seen is. seen-kept ino 0 blocks block seen mapped is)
           (λ seen is. file.bytes block seen is);
     }
   where
@@ -268,10 +271,10 @@ stored-cell ino stored blocks k are less =
     (subst (λ n. k < n) (sym long) less)
     ∙ ap (home_or (seen_for blocks k)) (hole-at FILE_BLOCKS k)
 
-pub stored-stands : (ino : ℕ) (size : Seen WordStep) (stored : ℕ) (blocks : List MappedSeen) →
-    IsStored ino size stored blocks →
+pub sized-stands : (ino : ℕ) (size : Seen WordStep) (stored : ℕ) (blocks : List MappedSeen) →
+    HasSize size stored → AreMapped ino 0 blocks →
     StandsFor size stored blocks (stored_state ino size stored blocks)
-stored-stands ino size stored blocks given = λ core file. record {
+sized-stands ino size stored blocks sized mapped = λ core file. record {
   stands = record {
     follows = follows-fresh (stored_state ino size stored blocks).tracker core file.fresh
         (record {
@@ -285,23 +288,32 @@ stored-stands ino size stored blocks given = λ core file. record {
           cells = λ k less.
               cell-stands (cell_at (stored_state ino size stored blocks).tracker.cells k)
               (seen_for blocks k) (get_or core.tags k Off)
-              (stored-cell ino stored blocks k given.mapped less) (file.tags k less);
+              (stored-cell ino stored blocks k mapped less) (file.tags k less);
           doubt = refl;
         });
-    shows = shown ino size stored blocks core given file;
+    shows = shown ino size stored blocks core sized mapped file;
     size = refl;
     slots = λ place entry held there has. cc;
     doubt = λ doubt slots is has. cc;
     blocks = λ k seen less has.
         held-is (cell_at (stored_state ino size stored blocks).tracker.cells k) (seen_for blocks k)
-        seen (stored-cell ino stored blocks k given.mapped less) has;
+        seen (stored-cell ino stored blocks k mapped less) has;
     rest = λ k less.
         at-rest ino k (cell_at (stored_state ino size stored blocks).tracker.cells k)
-        (seen_for blocks k) (stored-cell ino stored blocks k given.mapped less);
+        (seen_for blocks k) (stored-cell ino stored blocks k mapped less);
   };
   out = tt;
   once = tt;
 }
+
+pub stored-stands : (ino : ℕ) (size : Seen WordStep) (stored : ℕ) (blocks : List MappedSeen) →
+    IsStored ino size stored blocks →
+    StandsFor size stored blocks (stored_state ino size stored blocks)
+stored-stands ino size stored blocks given =
+    sized-stands ino size stored blocks (record {
+      images = λ image is. ap (λ ws. get_or ws 0 0) (given.sure image is) ∙ given.size_is;
+      now = given.size_is;
+    }) given.mapped
 
 -- an empty file
 

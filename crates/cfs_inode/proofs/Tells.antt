@@ -29,6 +29,18 @@ with-told tell (x ∷ xs) place now = elim (cases_Bool (is_at place x)) [
       rw beside (ap (λ ys. told_entry tell x ∷ ys) (with-told tell xs place now))
 ]
 
+pub with-told-by : {S T : Type 0} (tell : S → T) (es : List (Pending S)) (place : ℕ)
+    (change : Pending S → Pending S) (other : Pending T → Pending T) →
+    ((e : Pending S) → told_entry tell (change e) ≡ other (told_entry tell e)) →
+    map (told_entry tell) (with_entry place change es)
+    ≡ with_entry place other (map (told_entry tell) es)
+with-told-by tell [] place change other same = refl
+with-told-by tell (x ∷ xs) place change other same = elim (cases_Bool (is_at place x)) [
+  | inl own ↦ rw own (ap (λ y. y ∷ map (told_entry tell) xs) (same x))
+  | inr beside ↦
+      rw beside (ap (λ ys. told_entry tell x ∷ ys) (with-told-by tell xs place change other same))
+]
+
 pub without-told : {S T : Type 0} (tell : S → T) (es : List (Pending S)) (place : ℕ) →
     map (told_entry tell) (without place es) ≡ without place (map (told_entry tell) es)
 without-told tell [] place = refl

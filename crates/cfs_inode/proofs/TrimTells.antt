@@ -37,7 +37,7 @@ held-told tell (kinds.Unsure home) = refl
 held-told tell (kinds.Lent place) = refl
 held-told tell (kinds.Moving is_sure) = refl
 
-is-held-told : {B C : Type 0} (tell : B → C) (cell : Cell B) →
+pub is-held-told : {B C : Type 0} (tell : B → C) (cell : Cell B) →
     is_held (told_cell tell cell) ≡ is_held cell
 is-held-told tell kinds.Hole = refl
 is-held-told tell (kinds.Home home) = refl

@@ -246,7 +246,7 @@ trim-made old block was now freed obeys keeps asked_old asked_new past has sets 
 
 -- ---- what is named
 
-is-held-some : {B : Type 0} (cell : Cell B) → is_held cell ≡ true →
+pub is-held-some : {B : Type 0} (cell : Cell B) → is_held cell ≡ true →
     (home : B) × (held_in cell ≡ Some home)
 is-held-some kinds.Hole h = cc
 is-held-some (kinds.Home home) h = (home, refl)

@@ -5,6 +5,7 @@ pub mod Heads
 pub mod Ends
 pub mod Opening
 pub mod Reads
+pub mod Notes
 pub mod Jobs
 pub mod New
 pub mod Serves
@@ -14,6 +15,7 @@ pub mod Covering
 pub mod Dispatching
 pub mod Backs
 pub mod Finishing
+pub mod Purges
 pub mod Knows
 pub mod Tagging
 pub mod Mapping

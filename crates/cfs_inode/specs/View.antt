@@ -49,6 +49,7 @@ told_entry tell entry = record {
   applied = entry.applied;
   done = entry.done;
   doing = told_doing tell entry.doing;
+  passed = entry.passed;
 }
 
 abbrev pub told_doubt : {S T : Type 0} → (S → T) → InDoubt S → InDoubt T

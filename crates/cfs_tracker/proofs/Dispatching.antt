@@ -29,14 +29,15 @@ use Rattle.cfs_tracker.specs.declared.doing.Doing.TheVariants as doings
 use Rattle.cfs_tracker.specs.declared.pending.Pending.{Pending}
 use Rattle.cfs_tracker.specs.declared.reading.Reading.{Reading}
 use Rattle.cfs_tracker.specs.declared.step.Step.TheVariants.{NotWaiting, Takes}
-use Rattle.cfs_tracker.specs.View.{TrackerView, doing, entry_at, is_read_at, read_at, with_entry}
+use Rattle.cfs_tracker.specs.View.{TrackerView, entry_at, is_read_at, read_at, with_entry}
 use Rattle.cfs_tracker.specs.Admit.{is_mapped}
 use Rattle.cfs_tracker.specs.Cells.{cell_at}
 use Rattle.cfs_tracker.specs.Dispatch.{ahead, are_still, dispatched, first_cell, holder, is_ahead}
 use Rattle.cfs_tracker.specs.Dispatch.{is_home, is_kept, is_read_ahead, is_still, is_still_at}
 use Rattle.cfs_tracker.specs.Dispatch.{is_waiting_doing, is_wanted_cell, lend, lent_to, lesser}
-use Rattle.cfs_tracker.specs.Dispatch.{next_cell, read_place, second_cell, step_at, step_behind}
-use Rattle.cfs_tracker.specs.Dispatch.{step_of, step_of_blocks, step_with, tile_at, tile_in}
+use Rattle.cfs_tracker.specs.Dispatch.{next_cell, read_place, second_cell, sent, step_at}
+use Rattle.cfs_tracker.specs.Dispatch.{step_behind, step_of, step_of_blocks, step_with}
+use Rattle.cfs_tracker.specs.Dispatch.{tile_at, tile_in}
 use Rattle.cfs_tracker.specs.Follows.{CellStands, Follows, IsDoing, IsTrack, block_of, gate_for, is_dead}
 use Rattle.cfs_tracker.specs.Reads.{is_live_doing, place_of}
 use Rattle.cfs_tracker.proofs.Admissions.{mapped-less, mapped-tag}
@@ -550,22 +551,21 @@ follows-dispatched {S} {D} {B} view core place first second is are follows =
       untaken view core second follows are.second_kept,
     ) refl in
     let inside = in-log is_waiting refl core.tracks place waits in
-    let now : Doing S = doings.Out first second in
+    let now : Pending S → Pending S = sent first second in
     let unread : read_at view.reads place ≡ None = read-of view core place entry follows is.there in
-    let there : entry_at (with_entry place (doing now) view.entries) place ≡ Some (doing now entry)
-    =
-    here-with view.entries place (doing now) (λ e. refl) ∙ ap (option_map (doing now)) is.there in
+    let there : entry_at (with_entry place now view.entries) place ≡ Some (now entry) =
+    here-with view.entries place now (λ e. refl) ∙ ap (option_map now) is.there in
     let reached = comes core (events.Dispatch place) follows.reached may_be in (
       may_be,
       follows-put view core place (record t { state = states.Out (next_job core.tags t) })
-          (with_entry place (doing now) view.entries) view.reads
+          (with_entry place now view.entries) view.reads
           (lend place second (lend place first view.cells)) core.size core.sizes view.stored
           view.is_sure
           follows reached follows.size follows.sure
           (record {
             some = inside.0;
             within = inside.1;
-            entries_beside = λ q apart. at-with view.entries place q (doing now) (λ e. refl) apart;
+            entries_beside = λ q apart. at-with view.entries place q now (λ e. refl) apart;
             reads_beside = λ q apart. refl;
             here = stands-by there unread refl (record {
               grant = own.grant;
@@ -587,7 +587,7 @@ follows-dispatched {S} {D} {B} view core place first second is are follows =
                   ∙ idle-job view.cells entry block applied;
             });
             unread = unread;
-            rise = rise-with 0 view.entries place (doing now) (λ e. refl) follows.rise;
+            rise = rise-with 0 view.entries place now (λ e. refl) follows.rise;
             reads_rise = follows.reads_rise;
             many = lend-length (lend place first view.cells) place second
                 ∙ (lend-length view.cells place first ∙ follows.many);

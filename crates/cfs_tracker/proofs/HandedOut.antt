@@ -3,10 +3,9 @@ use Rattle.std.proofs.Common.{◌≡◌, ◌∙◌, ap, List, Option, None, Some
 use Rattle.std.specs.Prelude.{option_map}
 use Rattle.cfs_tracker.specs.declared.cell.Cell.{Cell}
 use Rattle.cfs_tracker.specs.declared.cell.Cell.TheVariants as kinds
-use Rattle.cfs_tracker.specs.declared.doing.Doing.TheVariants.{Out}
-use Rattle.cfs_tracker.specs.View.{TrackerView, doing, entry_at, with_entry}
+use Rattle.cfs_tracker.specs.View.{TrackerView, entry_at, with_entry}
 use Rattle.cfs_tracker.specs.Cells.{cell_at}
-use Rattle.cfs_tracker.specs.Dispatch.{dispatched, is_home, is_kept, tile_at, tile_in}
+use Rattle.cfs_tracker.specs.Dispatch.{dispatched, is_home, is_kept, sent, tile_at, tile_in}
 use Rattle.cfs_tracker.specs.Finish.{IsOut, number_of}
 use Rattle.cfs_tracker.proofs.Dispatching.{AreBlocks, IsTaking, kept-by}
 use Rattle.cfs_tracker.proofs.Entries.{here-with}
@@ -31,8 +30,8 @@ pub handed-out : {S D B : Type 0} (view : TrackerView S D B) (place : ℕ)
 handed-out {S} view place first second is are =
     let one = tile-number view.cells first (kept-by view.cells first are.first_kept) in
     let two = tile-number view.cells second (kept-by view.cells second are.second_kept) in
-    let there : entry_at (with_entry place (doing (Out first second)) view.entries) place
-    ≡ Some (doing (Out first second) is.entry) =
-    here-with view.entries place (doing (Out first second)) (λ e. refl)
-    ∙ ap (option_map (doing (Out first second))) is.there in
+    let there : entry_at (with_entry place (sent first second) view.entries) place
+    ≡ Some (sent first second is.entry) =
+    here-with view.entries place (sent first second) (λ e. refl)
+    ∙ ap (option_map (sent first second)) is.there in
     rw (there, one, two) refl

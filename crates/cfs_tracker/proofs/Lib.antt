@@ -21,3 +21,4 @@ pub mod Behind
 pub mod Named
 pub mod HandedOut
 pub mod Passing
+pub mod Purging

@@ -66,20 +66,21 @@ entries-are {S} view core {items} {entries} same follows =
     subst (λ (es : List (Pending S)). Follows (record view { entries = es }) core) (sym same)
     follows
 
-redo-one : {S : Type 0} (now : Doing S) (entry : Option (Pending S)) (read : Option Reading)
-    (t : Track) →
-    ((e : Pending S) → entry ≡ Some e → IsTrack e t → IsTrack (doing now e) t) →
-    StandsAt entry read t → StandsAt (option_map (doing now) entry) read t
-redo-one now None read t keeps stands = stands
-redo-one now (Some entry) None t keeps stands = keeps entry refl stands
-redo-one now (Some entry) (Some read) t keeps stands = stands
+changed-one : {S : Type 0} (change : Pending S → Pending S) (entry : Option (Pending S))
+    (read : Option Reading) (t : Track) →
+    ((e : Pending S) → entry ≡ Some e → IsTrack e t → IsTrack (change e) t) →
+    StandsAt entry read t → StandsAt (option_map change entry) read t
+changed-one change None read t keeps stands = stands
+changed-one change (Some entry) None t keeps stands = keeps entry refl stands
+changed-one change (Some entry) (Some read) t keeps stands = stands
 
-pub follows-redo : {S D B : Type 0} (view : TrackerView S D B) (core : Core) (place : ℕ)
-    (now : Doing S) → Follows view core →
+pub follows-changed : {S D B : Type 0} (view : TrackerView S D B) (core : Core) (place : ℕ)
+    (change : Pending S → Pending S) → ((e : Pending S) → (change e).place ≡ e.place) →
+    Follows view core →
     ((e : Pending S) → entry_at view.entries place ≡ Some e → IsTrack e (track core.tracks place) →
-    IsTrack (doing now e) (track core.tracks place)) →
-    Follows (record view { entries = with_entry place (doing now) view.entries }) core
-follows-redo {S} view core place now follows keeps = record {
+    IsTrack (change e) (track core.tracks place)) →
+    Follows (record view { entries = with_entry place change view.entries }) core
+follows-changed {S} view core place change stays follows keeps = record {
   reached = follows.reached;
   up = follows.up;
   count = follows.count;
@@ -87,16 +88,15 @@ follows-redo {S} view core place now follows keeps = record {
   size = follows.size;
   sure = follows.sure;
   entries = λ q. elim (same_or_not q place) [
-    | inl same ↦ subst (λ (n : ℕ). StandsAt (entry_at (with_entry place (doing now) view.entries)
-        n) (read_at view.reads n) (track core.tracks n)) (sym same)
-        (stands-by (here-with view.entries place (doing now) (λ e. refl)) refl refl
-        (redo-one now (entry_at view.entries place) (read_at view.reads place)
+    | inl same ↦ subst (λ (n : ℕ). StandsAt (entry_at (with_entry place change view.entries) n)
+        (read_at view.reads n) (track core.tracks n)) (sym same)
+        (stands-by (here-with view.entries place change stays) refl refl
+        (changed-one change (entry_at view.entries place) (read_at view.reads place)
         (track core.tracks place) keeps (follows.entries place)))
     | inr apart ↦
-        stands-by (at-with view.entries place q (doing now) (λ e. refl) apart) refl refl
-        (follows.entries q)
+        stands-by (at-with view.entries place q change stays apart) refl refl (follows.entries q)
   ];
-  rise = rise-with 0 view.entries place (doing now) (λ e. refl) follows.rise;
+  rise = rise-with 0 view.entries place change stays follows.rise;
   reads_rise = follows.reads_rise;
   syncs = follows.syncs;
   many = follows.many;
@@ -104,6 +104,14 @@ follows-redo {S} view core place now follows keeps = record {
   lent = follows.lent;
   doubt = follows.doubt;
 }
+
+pub follows-redo : {S D B : Type 0} (view : TrackerView S D B) (core : Core) (place : ℕ)
+    (now : Doing S) → Follows view core →
+    ((e : Pending S) → entry_at view.entries place ≡ Some e → IsTrack e (track core.tracks place) →
+    IsTrack (doing now e) (track core.tracks place)) →
+    Follows (record view { entries = with_entry place (doing now) view.entries }) core
+follows-redo view core place now follows keeps =
+    follows-changed view core place (doing now) (λ e. refl) follows keeps
 
 -- another doing of the same state
 pub redo-alike : {S : Type 0} (now : Doing S) (entry : Pending S) (t : Track) →

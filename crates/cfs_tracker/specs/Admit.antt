@@ -55,6 +55,7 @@ pending request grant slots view = record {
   applied = false;
   done = None;
   doing = Waiting slots;
+  passed = 0;
 }
 
 -- it is admitted

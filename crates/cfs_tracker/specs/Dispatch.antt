@@ -18,7 +18,7 @@ use Rattle.cfs_tracker.specs.declared.tile.Tile.{Tile}
 use Rattle.cfs_tracker.specs.Admit.{is_mapped}
 use Rattle.cfs_tracker.specs.Cells.{cell_at}
 use Rattle.cfs_tracker.specs.Reads.{is_live_doing, place_of}
-use Rattle.cfs_tracker.specs.View.{TrackerView, doing, entry_at, with_entry}
+use Rattle.cfs_tracker.specs.View.{TrackerView, entry_at, with_entry}
 
 -- ---- the next blocks
 
@@ -109,10 +109,14 @@ abbrev pub lend : {B : Type 0} → ℕ → Option ℕ → List (Cell B) → List
 lend place None cells = cells
 lend place (Some block) cells = set cells block (kinds.Lent place)
 
+-- it is out with these blocks, and from now on nothing else was chosen while it stood ready
+abbrev pub sent : {S : Type 0} → Option ℕ → Option ℕ → Pending S → Pending S
+sent first second entry = record entry { doing = Out first second; passed = 0 }
+
 abbrev pub dispatched : {S D B : Type 0} → ℕ → Option ℕ → Option ℕ → TrackerView S D B →
     TrackerView S D B
 dispatched place first second view = record view {
-  entries = with_entry place (doing (Out first second)) view.entries;
+  entries = with_entry place (sent first second) view.entries;
   cells = lend place second (lend place first view.cells);
 }
 

@@ -14,3 +14,4 @@ pub mod Work
 pub mod Least
 pub mod Listing
 pub mod Passed
+pub mod Purge

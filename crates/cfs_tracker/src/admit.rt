@@ -120,6 +120,7 @@ impl<S: Drop, D: Drop, B: Drop> Tracker<S, D, B> {
             applied: false,
             done: None,
             doing: Doing::Waiting(slots),
+            passed: 0,
         }
     }
 

@@ -19,9 +19,10 @@ ghost use Rattle.cfs_tracker.specs.Work.{takes_now};
 
 use crate::ahead::{first_ahead, first_read_ahead, lesser};
 use crate::blockers::place_of;
-use crate::find::{entry_of, redo};
+use crate::find::entry_of;
 use crate::lending::{holder, is_still, lend, next_cell};
 use crate::passed::Passed;
+use crate::sending::send;
 use crate::{Doing, Pending, Step, Taken, Tracker};
 
 fn takes_now(step: Step) -> bool
@@ -154,7 +155,7 @@ impl<S: Drop, D: Drop, B: Drop> Tracker<S, D, B> {
             (may core (events.Dispatch place) ≡ true)
             × Follows (view_of self.new) (after core (events.Dispatch place)) }
     {
-        let slots = match redo(&mut self.entries, place, Doing::Out { first, second }) {
+        let slots = match send(&mut self.entries, place, first, second) {
             Some(Doing::Waiting(slots)) => slots,
             Some(Doing::Marking | Doing::Out { .. } | Doing::Covered(_) | Doing::Closing) | None =>
                 { unreachable!() }

@@ -18,4 +18,7 @@ pub struct Pending<S> {
     pub done: Option<u64>,
     /// What is being done with it.
     pub doing: Doing<S>,
+    /// How often other work was chosen while it stood ready, since it was admitted or last
+    /// dispatched; 2^64 - 1 stands for that many and more.
+    pub passed: u64,
 }

@@ -13,7 +13,7 @@ use crate::{Cell, InDoubt, Pending, Reading};
 /// A look-up by place walks what is pending once. `next_work` and `next_trim` also walk it for what
 /// comes before the answer, to the first that stands in its way, and `next_mark` walks the reads
 /// for each change that is covered. Of the file's blocks a call walks those of one span,
-/// `next_trim` those from the stored size on.
+/// `next_trim` those from the stored size on, `is_in_use` and `next_kept` those to the answer.
 #[derive(Debug, Drop)]
 pub struct Tracker<S, D, B> {
     /// How many places were given.

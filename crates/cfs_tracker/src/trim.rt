@@ -16,7 +16,7 @@ ghost use Rattle.cfs_tracker.specs.View.{KeepsRoom, view_of};
 use crate::{Cell, InDoubt, Pending, Tracker};
 use cfs_file::{BLOCK_LEN, FILE_BLOCKS, Span, overlaps};
 
-fn is_held<B>(cells: &[Cell<B>], block: u64) -> bool
+pub(crate) fn is_held<B>(cells: &[Cell<B>], block: u64) -> bool
     ensures { result ≡ is_held (cell_at cells.now block) }
 {
     match cells.get(block as usize) {
@@ -40,7 +40,7 @@ fn is_doubt_in<D>(span: &Span, doubt: &Option<InDoubt<D>>) -> bool
     }
 }
 
-fn left_cell<B>(left: Option<B>) -> Cell<B>
+pub(crate) fn left_cell<B>(left: Option<B>) -> Cell<B>
     ensures { result ≡ left_cell left }
 {
     match left {

@@ -77,6 +77,7 @@ impl<S: Drop, D: Drop, B: Drop> Tracker<S, D, B> {
             place: entry.place,
             is_noop: is_noop(&entry.doing),
             read_waits: read_waits(self.reads.as_slice(), entry),
+            passed: entry.passed,
         }
     }
 

@@ -9,4 +9,7 @@ pub struct Work {
     pub is_noop: bool,
     /// A later read that it overlaps waits for it, or a later sync.
     pub read_waits: bool,
+    /// How often other work was chosen while the change stood ready, since it was admitted or last
+    /// dispatched.
+    pub passed: u64,
 }

@@ -122,12 +122,15 @@ fn one_after_another(alloc: Global, rt: &impl Abort) -> Result<(), NoMemory> {
     assert_eq!(rt; tracker.next_mark(3, 0), None);
     assert_eq!(rt; tracker.read_blocker(2), Some(1));
     assert_eq!(rt; tracker.step(3), Step::NotYet(1));
+    tracker.note_passed(1);
+    tracker.note_passed(1);
     assert_eq!(rt;
         tracker.next_work(0),
         Some(Work {
             place: 1,
             is_noop: false,
-            read_waits: true
+            read_waits: true,
+            passed: 2
         })
     );
     let Some(taken) = dispatch(&mut tracker, 1) else {
@@ -153,7 +156,8 @@ fn one_after_another(alloc: Global, rt: &impl Abort) -> Result<(), NoMemory> {
         Some(Work {
             place: 3,
             is_noop: true,
-            read_waits: false
+            read_waits: false,
+            passed: 0
         })
     );
     assert_eq!(rt; tracker.take_covered(3), Some(3));
@@ -192,7 +196,26 @@ fn more_than_two_blocks(alloc: Global, rt: &impl Abort) -> Result<(), NoMemory> 
     assert_eq!(rt; tracker.next_trim(), Some(0));
     assert_eq!(rt; tracker.take_block(0), Some(100));
     assert_eq!(rt; tracker.next_trim(), Some(1));
+    assert!(rt; tracker.is_in_use());
+    tracker.untagged(0, None);
+    assert_eq!(rt; tracker.next_kept(), Some(1));
+    assert_eq!(rt; tracker.take_block(1), Some(101));
+    tracker.untagged(1, None);
+    assert!(rt; !empty(&mut tracker));
+    assert_eq!(rt; tracker.take_block(2), Some(102));
+    tracker.untagged(2, None);
+    assert!(rt; empty(&mut tracker));
+    assert_eq!(rt; tracker.count(), 0);
     Ok(())
+}
+
+/// Empties a tracker, if nothing uses it and no block is left.
+fn empty(tracker: &mut Plain) -> bool {
+    if tracker.is_in_use() || tracker.next_kept().is_some() {
+        return false;
+    }
+    tracker.emptied();
+    true
 }
 
 /// Admits a write of so many bytes, and answers its place; 0 where it may not be admitted.
@@ -230,7 +253,8 @@ fn behind_ten_jobs(alloc: Global, rt: &impl Abort) -> Result<(), NoMemory> {
         Some(Work {
             place: 11,
             is_noop: false,
-            read_waits: false
+            read_waits: false,
+            passed: 0
         })
     );
     Ok(())

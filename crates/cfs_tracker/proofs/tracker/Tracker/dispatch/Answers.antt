@@ -26,9 +26,14 @@ returns-clause-second g c =
 pub returns-clause-follows : goal.returns-clause-follows
 returns-clause-follows g c = λ core follows.
     let view = view_of c.args.self.now in
-    let takes = follows-dispatched view core c.args.place c.args.first c.args.second (taking view c.args.place c.args.first c.args.second c.requires.ready)
-    (ready-blocks view c.args.place c.args.first c.args.second c.requires.ready c.requires.still) follows in
-    (takes.0, same-view (rw (c.redo.ensures.items, c.lend-two.ensures.items, c.lend-one.ensures.items) refl) takes.1)
+    let blocks = ready-blocks view c.args.place c.args.first c.args.second c.requires.ready
+    c.requires.still in
+    let takes = follows-dispatched view core c.args.place c.args.first c.args.second
+    (taking view c.args.place c.args.first c.args.second c.requires.ready) blocks follows in
+    let out = c.send.ensures.items in
+    let one = c.lend-one.ensures.items in
+    let two = c.lend-two.ensures.items in
+    (takes.0, same-view (rw (out, two, one) refl) takes.1)
 
 pub returns-clause-ascend : goal.returns-clause-ascend
 returns-clause-ascend g c =
@@ -38,6 +43,6 @@ pub returns-clause-out : goal.returns-clause-out
 returns-clause-out g c =
     let view = view_of c.args.self.now in
     let blocks = ready-blocks view c.args.place c.args.first c.args.second c.requires.ready c.requires.still in
-    rw (c.redo.ensures.items, c.lend-one.ensures.tile, returns-clause-second g c)
+    rw (c.send.ensures.items, c.lend-one.ensures.tile, returns-clause-second g c)
     (handed-out view c.args.place c.args.first c.args.second
     (taking view c.args.place c.args.first c.args.second c.requires.ready) blocks)
