@@ -20,9 +20,9 @@ one-of-both (first ∷ rest) more device h =
     elim h as (λ _. IsOneOf (first ∷ rest) device ⊎ IsOneOf more device) [
       | inl is ↦ inl (inl is)
       | inr there ↦ elim (one-of-both rest more device there) [
-          | inl early ↦ inl (inr early)
-          | inr late ↦ inr late
-        ]
+        | inl early ↦ inl (inr early)
+        | inr late ↦ inr late
+      ]
     ]
 
 -- a device is that of one of the slots
