@@ -1,5 +1,6 @@
 -- What is known of a doing or of a block is known of what it is told as.
-use Rattle.std.proofs.Common.{◌≡◌, ◌∙◌, ap, inl, inr, List, [], ◌∷◌, map, Option, None, Some, refl, ℕ}
+use Rattle.std.proofs.Common.{◌≡◌, ◌∙◌, ap, inl, inr, List, [], ◌∷◌, map, Option, None, Some, refl}
+use Rattle.std.proofs.Common.{ℕ}
 use Rattle.std.proofs.Common.{Bool, true, false}
 use Rattle.std.specs.List.{find}
 use Rattle.std.specs.Option.{option_map}

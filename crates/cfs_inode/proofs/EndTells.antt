@@ -1,7 +1,6 @@
 -- What becomes of a change whose job comes back is told of a tracker as it is.
 use Rattle.std.proofs.Common.{◌≡◌, ◌∙◌, ◌||◌, ap, is_none, List, map, Option}
 use Rattle.std.proofs.Common.{None, Some, refl, subst, sym, true, false, ℕ, Bool}
-use Rattle.std.proofs.lemmas.List.{map-set}
 use Rattle.std.specs.Option.{option_map}
 use Rattle.cfs_core.specs.Words.{sized}
 use Rattle.cfs_pmem.specs.Images.{Seen}
@@ -20,7 +19,7 @@ use Rattle.cfs_tracker.specs.Finish.{IsOut, applied, applied_entry, blocks_in, b
 use Rattle.cfs_tracker.specs.Finish.{done_with, home, is_last, is_last_of, more, more_entry}
 use Rattle.cfs_tracker.specs.Finish.{number_of, put_back, retired, size_after, size_unsure, span_in}
 use Rattle.cfs_tracker.specs.View.{TrackerView, doing, entry_at, with_entry, without}
-use Rattle.cfs_inode.specs.Backs.{CameBack, tile_back, tile_from, told_tile}
+use Rattle.cfs_inode.specs.Backs.{tile_back, tile_from}
 use Rattle.cfs_inode.specs.View.{Held, told, told_cell, told_doing, told_entry}
 use Rattle.cfs_inode.proofs.JobTells.{next-told}
 use Rattle.cfs_inode.proofs.Tells.{at-told, with-told, with-told-by, without-told}

@@ -74,8 +74,10 @@ pub slots-ok : {R T E : Type 0} {obeys : Bool} {at word : ℕ} (seen : R → See
     SetsWord {T = T} {E = E} obeys at word (Ok t) asked_old (seen head) asked_new (seen now) →
     news ≡ now ∷ tails →
     SetsHead obeys at word plain-ok asked_old (map seen (head ∷ tails)) asked_new (map seen news)
-slots-ok seen head now tails news t sets is =
-    subst (λ xs. SetsHead _ _ _ plain-ok _ (map seen (head ∷ tails)) _ (map seen xs)) (sym is)
+slots-ok {R} {T} {E} {obeys} {at} {word} seen head now tails news t {asked_old} {asked_new}
+    sets is =
+    subst (λ (xs : List R). SetsHead obeys at word plain-ok asked_old (map seen (head ∷ tails))
+    asked_new (map seen xs)) (sym is)
     (heads-ok (seen head) (seen now) (map seen tails) (map seen tails) t refl sets)
 
 pub slots-err : {R T E : Type 0} {obeys : Bool} {at word : ℕ} (seen : R → Seen WordStep)
@@ -83,6 +85,8 @@ pub slots-err : {R T E : Type 0} {obeys : Bool} {at word : ℕ} (seen : R → Se
     SetsWord {T = T} {E = E} obeys at word (Err e) asked_old (seen head) asked_new (seen now) →
     news ≡ now ∷ tails →
     SetsHead obeys at word plain-err asked_old (map seen (head ∷ tails)) asked_new (map seen news)
-slots-err seen head now tails news e sets is =
-    subst (λ xs. SetsHead _ _ _ plain-err _ (map seen (head ∷ tails)) _ (map seen xs)) (sym is)
+slots-err {R} {T} {E} {obeys} {at} {word} seen head now tails news e {asked_old} {asked_new}
+    sets is =
+    subst (λ (xs : List R). SetsHead obeys at word plain-err asked_old (map seen (head ∷ tails))
+    asked_new (map seen xs)) (sym is)
     (heads-err (seen head) (seen now) (map seen tails) (map seen tails) e refl sets)

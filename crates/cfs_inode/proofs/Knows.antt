@@ -1,6 +1,6 @@
 -- What calls about jobs ask for is known where a state stands.
 use Rattle.std.proofs.Common.{◌≡◌, ◌∙◌, ◌+◌, ◌-◌, ◌<◌, ◌==◌, ap, arith, length, List, [], ◌∷◌}
-use Rattle.std.proofs.Common.{map}
+use Rattle.std.proofs.Common.{map, suc}
 use Rattle.std.proofs.Common.{Option, None, Some, refl, subst, sym, true, false, ℕ, Bool}
 use Rattle.std.specs.Prelude.{option_map, slice_get}
 use Rattle.std.specs.List.{list_all}
@@ -39,7 +39,7 @@ use Rattle.cfs_tracker.specs.declared.doing.Doing.TheVariants as doings
 use Rattle.cfs_tracker.specs.declared.pending.Pending.{Pending}
 use Rattle.cfs_tracker.specs.declared.reading.Reading.{Reading}
 use Rattle.cfs_tracker.specs.Cells.{cell_at}
-use Rattle.cfs_tracker.specs.Dispatch.{is_still, waiting_in}
+use Rattle.cfs_tracker.specs.Dispatch.{is_still, sent, waiting_in}
 use Rattle.cfs_tracker.specs.Finish.{blocks_in, blocks_out, number_of}
 use Rattle.cfs_tracker.specs.Follows.{IsDoing, StandsAt, block_of, is_dead}
 use Rattle.cfs_tracker.specs.declared.cell.Cell.{Cell}
@@ -244,13 +244,14 @@ all-still ino from (cell ∷ cells) rest =
     rest-still ino (from + 0) cell (rest 0 (omega arith)) in
     let others = all-still ino (from + 1) cells (λ k less.
     subst (λ (n : ℕ). IsAtRest ino n (cell_at cells k)) (omega arith)
-    (rest (k + 1) (omega (arith, less)))) in
+    (rest (suc k) (omega (arith, less)))) in
     rw first others
 
 pub standing-ready : StandingAreReady
 standing-ready state core world place stands = record {
   still = all-still state.ino 0 state.tracker.cells (λ k less.
-      stands.rest k (omega (arith, less, stands.follows.many)));
+      subst (λ (n : ℕ). IsAtRest state.ino n (cell_at state.tracker.cells k)) (omega arith)
+      (stands.rest k (omega (arith, less, stands.follows.many))));
   opened = λ entry held there waits. record {
     placed = (stands.slots place entry held there (waiting-slots entry.doing held waits)).opened;
     spans = λ open_. its-span state core world place entry held stands there waits open_;
@@ -272,7 +273,7 @@ tile-number cells (Some block) (Some tile) are = ap (λ (n : ℕ). Some n) are.a
 pub taken-out : TakenAreOut
 taken-out place job old new is =
     let es = old.tracker.entries in
-    let change : Pending Held → Pending Held = doing (doings.Out is.first is.second) in
+    let change : Pending Held → Pending Held = sent is.first is.second in
     let there : entry_at (with_entry place change es) place ≡ Some (change is.entry) =
     here-with es place change (λ e. refl)
     ∙ ap (λ (o : Option (Pending Held)). option_map change o) is.given.there in

@@ -1,7 +1,7 @@
 -- The state of a file that is no longer in the tree is emptied.
 use Rattle.std.proofs.Common.{◌≡◌, ◌∙◌, ◌==◌, ◌||◌, ◌<◌, ap, arith, get_or, List, [], ◌∷◌, length}
-use Rattle.std.proofs.Common.{map, Option, None, Some, refl, set, subst, sym, true, false, ℕ, Bool}
-use Rattle.std.specs.Prelude.{is_some, nat_lt}
+use Rattle.std.proofs.Common.{map, Option, None, Some, refl, subst, sym, true, false, ℕ, Bool}
+use Rattle.std.specs.Prelude.{is_some}
 use Rattle.std.specs.List.{find, list_any, range_with_len}
 use Rattle.std.specs.Option.{option_map}
 use Rattle.std.proofs.lemmas.Bool.Decides.{nat_tests}
@@ -11,12 +11,11 @@ use Rattle.cfs_core.specs.declared.inode_core.Core.{Core}
 use Rattle.cfs_core.specs.Medium.{is_size}
 use Rattle.cfs_core.proofs.Legal.{both}
 use Rattle.cfs_pmem.specs.declared.trace.Asked.{Asked}
-use Rattle.cfs_pmem.specs.Images.{IsImage, Seen, WordStep, failed as stopped, kept, words_of, wrote}
+use Rattle.cfs_pmem.specs.Images.{IsImage, Seen, WordStep, failed as stopped, words_of}
 use Rattle.cfs_pmem.proofs.ImageLemmas.{image_failed, now_is_image}
 use Rattle.cfs_block.specs.BlockImages.{BlockStep}
 use Rattle.cfs_slot.specs.declared.doubt.Doubt.{Doubt}
 use Rattle.cfs_slot.specs.declared.live.Live.{Live}
-use Rattle.cfs_medium.specs.World.{World}
 use Rattle.cfs_tracker.specs.declared.cell.Cell.{Cell}
 use Rattle.cfs_tracker.specs.declared.cell.Cell.TheVariants as kinds
 use Rattle.cfs_tracker.specs.declared.in_doubt.InDoubt.{InDoubt}
@@ -34,7 +33,6 @@ use Rattle.cfs_inode.specs.New.{stored_state}
 use Rattle.cfs_inode.specs.Purges.{IsZero, PurgeEnd, PurgeFailing, PurgeFails, PurgeStands, Purges}
 use Rattle.cfs_inode.specs.Purges.{StandingTellZero, StandsEmpty, TellsZero, done, failed, freed}
 use Rattle.cfs_inode.specs.Purges.{in_use, keeping, untagging, writing}
-use Rattle.cfs_inode.specs.Stands.{Stands}
 use Rattle.cfs_inode.specs.View.{StateView, held_of, seens_of, state_view, told, told_cell}
 use Rattle.cfs_inode.specs.View.{told_doubt, told_entry}
 use Rattle.cfs_inode.proofs.News.{HasSize, empty-file, sized-stands}

@@ -38,7 +38,7 @@ returns-then-not-fits g c =
     subst (λ (n : ℕ). AdmissionMakes g.R.Region.obeys_power g.B.Block.obeys_power
     g.B.Block.keeps_refused request grant staged nothing (too_big n staged) asked stock old asked
     stock
-    old) (sym c.length.ensures)
+    old) (sym c.length-length.ensures)
     (admission-long g.R.Region.obeys_power g.B.Block.obeys_power g.B.Block.keeps_refused request
     grant staged asked stock old
     (too-long (long_after (view_of c.args.self.now.tracker).long request) LONGEST_FILE
@@ -80,23 +80,24 @@ returns-then-len-need g c =
     (long-enough (long_after (view_of c.args.self.now.tracker).long request) LONGEST_FILE
     c.if-not-fits.ensures) few)
 
-pub settle-requires : goal.settle-requires
-settle-requires g c = (search rules, (search rules, search rules))
+pub settle-settled-requires : goal.settle-settled-requires
+settle-settled-requires g c = (search rules, (search rules, search rules))
 
-pub admit_settled-requires : goal.admit_settled-requires
-admit_settled-requires g c =
+pub admit_settled-answer-requires : goal.admit_settled-answer-requires
+admit_settled-answer-requires g c =
     let words = g.R.Region.seen in
     let bytes = g.B.Block.seen in
     let request = c.args.request.now in
-    let new = c.settle.new.self in
-    let did = c.settle.ensures.settles in
-    let is = well-settled words bytes c.args.self.now new c.settle.result g.R.Region.obeys_power
-    (g.P.Power.asked c.args.power.now) (g.P.Power.asked c.settle.new.power)
+    let new = c.settle-settled.new.self in
+    let did = c.settle-settled.ensures.settles in
+    let is = well-settled words bytes c.args.self.now new c.settle-settled.result
+    g.R.Region.obeys_power
+    (g.P.Power.asked c.args.power.now) (g.P.Power.asked c.settle-settled.new.power)
     (sym c.is_failed.ensures ∙ c.if-is_failed.false) c.requires.here did in
     let same : new.ino ≡ c.args.self.now.ino =
-    (settle-keeps g.R.Region.obeys_power (end_of words c.settle.result)
+    (settle-keeps g.R.Region.obeys_power (end_of words c.settle-settled.result)
     (g.P.Power.asked c.args.power.now) (state_view words bytes c.args.self.now)
-    (g.P.Power.asked c.settle.new.power) (state_view words bytes new) did).ino in
+    (g.P.Power.asked c.settle-settled.new.power) (state_view words bytes new) did).ino in
     let ino : new.ino < 4294967296 = omega (arith, same, c.requires.ino) in
     let settled = is.doubt in
     let change = c.requires.change in
@@ -118,7 +119,7 @@ admit_settled-requires g c =
     let places : (view_of new.tracker).count + 1 < 18446744073709551616 =
     omega (arith, is.count, c.requires.places) in
     let room : vec_len new.tracker.entries < vec_capacity new.tracker.entries =
-    omega (arith, c.settle.ensures.room.entries, c.requires.room) in
+    omega (arith, c.settle-settled.ensures.room.entries, c.requires.room) in
     let file : ino_of (words_of (words (of_staged c.args.staged))) ≡ new.ino =
     c.requires.file ∙ sym same in (
       search rules,
@@ -164,11 +165,13 @@ returns g c =
     let bytes = g.B.Block.seen in
     let request = c.args.request.now in
     let old = state_view words bytes c.args.self.now in
-    let mid = state_view words bytes c.settle.new.self in
-    let did = c.settle.ensures.settles in
+    let mid = state_view words bytes c.settle-settled.new.self in
+    let did = c.settle-settled.ensures.settles in
     let own = span request (view_of c.args.self.now.tracker).long in
-    let is = well-settled words bytes c.args.self.now c.settle.new.self c.settle.result
-    g.R.Region.obeys_power (g.P.Power.asked c.args.power.now) (g.P.Power.asked c.settle.new.power)
+    let is = well-settled words bytes c.args.self.now c.settle-settled.new.self
+    c.settle-settled.result
+    g.R.Region.obeys_power (g.P.Power.asked c.args.power.now)
+    (g.P.Power.asked c.settle-settled.new.power)
     (sym c.is_failed.ensures ∙ c.if-is_failed.false) c.requires.here did in
     let less : bare_needed (view_of c.args.self.now.tracker).cells own
     ≤ length (items_of c.args.stock.now) =
@@ -180,12 +183,14 @@ returns g c =
     } in
     admission-settles g.R.Region.obeys_power g.B.Block.obeys_power g.B.Block.keeps_refused request
     (grant_of (words_of (words (of_staged c.args.staged)))) (staged_seens words c.args.staged)
-    (end_of words c.settle.result) (g.P.Power.asked c.args.power.now)
-    (stock_of bytes c.args.stock.now) old (g.P.Power.asked c.settle.new.power) mid
-    (g.P.Power.asked c.admit_settled.new.power) (stock_of bytes c.admit_settled.new.stock)
-    (state_view words bytes c.admit_settled.new.self) (admit_end words c.admit_settled.result)
-    enough did c.settle.ensures.makes
-    (ap (λ d. option_map (told_doubt (seens_of words)) d) is.doubt) c.admit_settled.ensures
+    (end_of words c.settle-settled.result) (g.P.Power.asked c.args.power.now)
+    (stock_of bytes c.args.stock.now) old (g.P.Power.asked c.settle-settled.new.power) mid
+    (g.P.Power.asked c.admit_settled-answer.new.power)
+    (stock_of bytes c.admit_settled-answer.new.stock)
+    (state_view words bytes c.admit_settled-answer.new.self)
+    (admit_end words c.admit_settled-answer.result)
+    enough did c.settle-settled.ensures.makes
+    (ap (λ d. option_map (told_doubt (seens_of words)) d) is.doubt) c.admit_settled-answer.ensures
 
 pub returns-then-is_failed : goal.returns-then-is_failed
 returns-then-is_failed g c =
@@ -203,18 +208,19 @@ returns-then-is_failed g c =
       stocked = stocked-told words bytes c.args.self.now c.args.stock.now own less;
     } in
     let asked = g.P.Power.asked c.args.power.now in
-    let asked_new = g.P.Power.asked c.settle.new.power in
-    let new = state_view words bytes c.settle.new.self in
+    let asked_new = g.P.Power.asked c.settle-settled.new.power in
+    let new = state_view words bytes c.settle-settled.new.self in
     let stock = stock_of bytes c.args.stock.now in
     let staged = staged_seens words c.args.staged in
     let grant = grant_of (words_of (words (of_staged c.args.staged))) in
-    let is = ill-settled words c.settle.result (sym c.is_failed.ensures ∙ c.if-is_failed.true) in
+    let is = ill-settled words c.settle-settled.result
+    (sym c.is_failed.ensures ∙ c.if-is_failed.true) in
     subst (λ (e : CloseEnd). AdmissionMakes g.R.Region.obeys_power g.B.Block.obeys_power
     g.B.Block.keeps_refused request grant staged e (refused staged) asked stock old asked_new stock
     new) (sym is)
     (admission-unsettled g.R.Region.obeys_power g.B.Block.obeys_power g.B.Block.keeps_refused
     request grant staged asked stock old asked_new new enough
     (subst (λ (e : CloseEnd). Settles g.R.Region.obeys_power e asked old asked_new new) is
-    c.settle.ensures.settles)
+    c.settle-settled.ensures.settles)
     (subst (λ (e : CloseEnd). CallMakes (settle_events e) asked old asked_new new) is
-    c.settle.ensures.makes))
+    c.settle-settled.ensures.makes))

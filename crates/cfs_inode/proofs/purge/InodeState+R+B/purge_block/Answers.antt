@@ -49,17 +49,19 @@ returns-in-Err g c =
     let seen = g.B.Block.seen in
     let state = c.args.self.now in (
       untagging,
-      c.args.block,
-      seen c.retag.new.block,
-      record {
-        unused = state-in-use words seen state false c.requires.unused;
-        lowest = state-kept words seen state (Some c.args.block) c.requires.lowest;
-        was = seen c.in-Some.home;
-        here = state-block words seen state c.args.block (Some c.in-Some.home)
-            c.in-Some.ensures.block;
-        sets = tags-err c.in-Err.field-0 c.in-Err.ensures.set;
-      },
-      state-cell words seen state c.untagged-in-Err.new.self (view_of c.take_block.new.self)
-          c.args.block (moving (cell_at (view_of state.tracker).cells c.args.block))
-          (kinds.Unsure c.retag.new.block) c.untagged-in-Err.ensures.view c.in-Some.ensures.view,
+      (
+        c.args.block,
+        seen c.retag.new.block,
+        record {
+          unused = state-in-use words seen state false c.requires.unused;
+          lowest = state-kept words seen state (Some c.args.block) c.requires.lowest;
+          was = seen c.in-Some.home;
+          here = state-block words seen state c.args.block (Some c.in-Some.home)
+              c.in-Some.ensures.block;
+          sets = tags-err c.in-Err.field-0 c.in-Err.ensures.set;
+        },
+        state-cell words seen state c.untagged-in-Err.new.self (view_of c.take_block.new.self)
+            c.args.block (moving (cell_at (view_of state.tracker).cells c.args.block))
+            (kinds.Unsure c.retag.new.block) c.untagged-in-Err.ensures.view c.in-Some.ensures.view,
+      ),
     )
