@@ -32,13 +32,13 @@ use Rattle.cfs_inode.proofs.Replacing.{all-go}
 
 -- ---- jobs
 
-first-has : (job : JobView) (tile : TileView) → job.first ≡ Some tile →
+pub first-has : (job : JobView) (tile : TileView) → job.first ≡ Some tile →
     has_block (states.Out (core_job job)) tile.at ≡ true
 first-has job tile is =
     let own : (tile.at == tile.at) ≡ true = grind (arith, nat_tests) in
     rw (is, own) refl
 
-second-has : (job : JobView) (tile : TileView) → job.second ≡ Some tile →
+pub second-has : (job : JobView) (tile : TileView) → job.second ≡ Some tile →
     has_block (states.Out (core_job job)) tile.at ≡ true
 second-has job tile is =
     let own : (tile.at == tile.at) ≡ true = grind (arith, nat_tests) in
@@ -51,7 +51,7 @@ second-has job tile is =
     or-right true = refl
     or-right false = refl
 
-held-beside : (tile : Option TileView) (block : ℕ) (here : Option (Seen BlockStep))
+pub held-beside : (tile : Option TileView) (block : ℕ) (here : Option (Seen BlockStep))
     (world next : World) → HasBlock block here world next →
     ((t : TileView) → tile ≡ Some t → t.at ≡ block → ⊥) → IsHeld tile world.blocks →
     IsHeld tile next.blocks

@@ -121,12 +121,13 @@ open-flag : (b : Bool) → can_be On b ≡ true → b ≡ true
 open-flag true h = refl
 open-flag false h = cc
 
--- what is known of a waiting change that is not applied
-record IsHeldOpen (ino place : ℕ) (t : Track) (core : Core) (seens : Seens) : Type 0 where
-  held : Holding
-  gate : held.gate ≡ On
-  request : held.request ≡ option_map (λ e. placed t.span e.request) (entry_of core.log place)
-  fits : (slots : List (List ℕ)) → IsEachImage IsImage seens slots → SlotFits ino place held slots
+-- what is known of a change that is not applied
+pub record IsHeldOpen (ino place : ℕ) (t : Track) (core : Core) (seens : Seens) : Type 0 where
+  pub held : Holding
+  pub gate : held.gate ≡ On
+  pub request : held.request ≡ option_map (λ e. placed t.span e.request) (entry_of core.log place)
+  pub fits : (slots : List (List ℕ)) → IsEachImage IsImage seens slots →
+      SlotFits ino place held slots
 
 gated-at : (ino place : ℕ) (held : Holding) (slots : List (List ℕ)) → held.gate ≡ On →
     SlotFits ino place held slots → is_gated (head_words slots) ≡ true
@@ -148,7 +149,7 @@ is-open ino place t core (head ∷ tails) is = λ image own.
     let fits = is.fits (image ∷ map words_of tails) (own, each-now tails) in
     fits.number (gated-at ino place is.held (image ∷ map words_of tails) is.gate fits)
 
-is-request : (ino place : ℕ) (t : Track) (core : Core) (seens : Seens) →
+pub is-request : (ino place : ℕ) (t : Track) (core : Core) (seens : Seens) →
     IsHeldOpen ino place t core seens →
     option_map (λ (e : Entry). placed t.span e.request) (entry_of core.log place)
     ≡ Some (request_seen seens)
@@ -159,7 +160,7 @@ is-request ino place t core (head ∷ tails) is =
     sym is.request ∙ fits.request (gated-at ino place is.held slots is.gate fits)
 
 -- the change of the log at a place
-logged-span : (core : Core) (place : ℕ) (entry : Option Entry) (seens : Seens) (t : Track) →
+pub logged-span : (core : Core) (place : ℕ) (entry : Option Entry) (seens : Seens) (t : Track) →
     IsLogged core → (place ≡ 0 → ⊥) → at core (place - 1) ≡ t →
     slice_get core.log (place - 1) ≡ entry →
     ((e : Entry) → entry ≡ Some e → is_change e.request ≡ true) →

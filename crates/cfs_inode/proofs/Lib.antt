@@ -42,3 +42,10 @@ pub mod Placings
 pub mod Admittings
 pub mod Noting
 pub mod Purges
+pub mod Stepping
+pub mod StepPieces
+pub mod StepAsks
+pub mod Running
+pub mod StepWrites
+pub mod StepFlushes
+pub mod JobSteps

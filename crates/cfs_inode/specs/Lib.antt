@@ -21,3 +21,4 @@ pub mod Tagging
 pub mod Mapping
 pub mod Placing
 pub mod Admitting
+pub mod JobSteps

@@ -42,7 +42,9 @@ pub use admit_answer::AdmitAnswer;
 pub use answers::{CloseAnswer, ServeAnswer};
 pub use dispatch_answer::DispatchAnswer;
 pub use finish_answer::FinishAnswer;
-pub use laws::{jobs_are_out, standing_are_ready, standing_tell_zero, taken_are_out};
+pub use laws::{
+    job_steps_are_events, jobs_are_out, standing_are_ready, standing_tell_zero, taken_are_out,
+};
 pub use mapped::Mapped;
 pub use mark_answer::MarkAnswer;
 pub use purge_answer::PurgeAnswer;

@@ -29,7 +29,8 @@ piece_size slots (Range from to) at spans touched =
 piece_size slots (From from) at spans touched = length-replicate {A = ℕ} (count_in (From from) at) 0
 
 -- what was written over some bytes is read there
-read_back : (words new : List ℕ) (from : ℕ) → from + length new ≤ length words → take (length new) (drop from (patched words from new)) ≡ new
+pub read_back : (words new : List ℕ) (from : ℕ) → from + length new ≤ length words
+    → take (length new) (drop from (patched words from new)) ≡ new
 read_back words new from fits =
     let front : length (take from words) ≡ from = length-take-le from words (omega arith) in
     let at : length (take from words) + 0 ≡ from = omega (arith, front) in

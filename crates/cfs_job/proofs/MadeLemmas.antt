@@ -10,7 +10,7 @@ use Rattle.cfs_core.specs.declared.state.Job.{Job}
 use Rattle.cfs_core.specs.Jobs.{job_flushed, job_written}
 use Rattle.cfs_job.specs.declared.tile.Tile.{Tile}
 use Rattle.cfs_job.specs.declared.turn.Turn.TheVariants as turns
-use Rattle.cfs_job.specs.Stands.{IsSound, TileKeeps, are_touched}
+use Rattle.cfs_job.specs.Stands.{IsFull, IsSound, TileKeeps, are_touched}
 use Rattle.cfs_job.specs.Steps.{Flushes, IsStepOn, MakesTurn, Writes, at_of, core_job, is_unflushed, is_unwritten, lease_in, next_turn, noted, one_if, steps_left}
 use Rattle.cfs_job.specs.Tiles.{tile_in, tile_view}
 use Rattle.cfs_job.specs.Views.{JobView, TileView}
@@ -32,6 +32,12 @@ full_in seen number full None was is = absurd (cc)
 full_in seen number full (Some tile) was is =
     let same : tile_view seen number tile ≡ was = cc in
     subst (λ (t : TileView). length (content_of t.seen).bytes ≡ 4096) same (full tile.block)
+
+pub full_tile : {B : Type 0} (seen : B → Seen BlockStep) (number : B → ℕ)
+    → ((block : B) → length (content_of (seen block)).bytes ≡ 4096)
+    → (tile : Option (Tile B)) → IsFull (tile_in seen number tile)
+full_tile seen number full None = tt
+full_tile seen number full (Some tile) = full tile.block
 
 -- what was not written was not flushed
 not_flushed : {payload : List ℕ} {s : Span} (was : TileView) → TileKeeps payload s was → was.written ≡ false → was.flushed ≡ false

@@ -1,8 +1,8 @@
 -- What a job is given, and what its blocks keep.
 use Rattle.std.specs.Prelude.{ℕ, ◌≡◌, Bool, true, false, ◌&&◌, Option, Some, None, List, [], ◌∷◌}
-use Rattle.std.specs.Prelude.{take, drop, is_some, nat_lt}
+use Rattle.std.specs.Prelude.{take, drop, is_some, length, nat_lt}
 use Rattle.cfs_file.specs.Span.{meets, span}
-use Rattle.cfs_file.specs.declared.sizes.TheConstants.{FILE_BLOCKS}
+use Rattle.cfs_file.specs.declared.sizes.TheConstants.{BLOCK_LEN, FILE_BLOCKS}
 use Rattle.cfs_file.specs.declared.span.Span.{Span}
 use Rattle.cfs_core.specs.Words.{block_span, piece_in}
 use Rattle.cfs_pmem.specs.Images.{Seen, WordStep, IsImage}
@@ -83,6 +83,11 @@ StaysOutside positions None = Unit {0}
 StaysOutside positions (Some tile) =
     AllBlockImages tile.seen (λ image. ∥ IsRangedFrom tile.taken (place_in positions tile.at)
     (count_in positions tile.at) image ∥₁)
+
+-- a block has all of its bytes
+abbrev pub IsFull : Option TileView → Type 0
+IsFull None = Unit {0}
+IsFull (Some tile) = length (content_of tile.seen).bytes ≡ BLOCK_LEN
 
 -- each image of a block has the request's bytes at its positions
 abbrev pub IsDurable : List ℕ → Span → Option TileView → Type 0

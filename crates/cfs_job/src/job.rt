@@ -2,8 +2,8 @@
 ghost use Rattle.std.specs.Prelude.{◌≡◌, ◌≤◌, ◌-◌, true, false, [], Some, is_ok, map, OnOk, OnErr};
 ghost use Rattle.cfs_slot.specs.Reads.{regions_of};
 ghost use Rattle.cfs_slot.specs.Regions.{place_of};
-ghost use Rattle.cfs_job.specs.Stands.{IsDurable, IsOpenFor, IsSound, IsSpanFor, ReadsAsNoted};
-ghost use Rattle.cfs_job.specs.Stands.{StaysOutside, are_touched};
+ghost use Rattle.cfs_job.specs.Stands.{IsDurable, IsFull, IsOpenFor, IsSound, IsSpanFor};
+ghost use Rattle.cfs_job.specs.Stands.{ReadsAsNoted, StaysOutside, are_touched};
 ghost use Rattle.cfs_job.specs.Steps.{one_if};
 ghost use Rattle.cfs_job.specs.Views.{anew, payload_seen};
 ghost use Rattle.cfs_job.specs.Tiles.{tile_in, tile_of};
@@ -179,7 +179,10 @@ impl<R: Region + Drop, B: Block + Drop> Job<R, B> {
         ensures opened { IsOpenFor (first_in self.now)
             (job_view R.seen B.seen B.number self.now).slots
             (job_view R.seen B.seen B.number self.now).place }
-        // Its blocks differ from what they were only at the request's own positions.
+        // Its blocks have all of their bytes.
+        ensures full_first { IsFull (job_view R.seen B.seen B.number self.now).first }
+        ensures full_second { IsFull (job_view R.seen B.seen B.number self.now).second }
+        // They differ from what they were only at the request's own positions.
         ensures outside_first { StaysOutside (job_view R.seen B.seen B.number self.now).span
             (job_view R.seen B.seen B.number self.now).first }
         ensures outside_second { StaysOutside (job_view R.seen B.seen B.number self.now).span

@@ -3,6 +3,7 @@ use Rattle.cfs_job.specs.Jobs.{first_in, job_view}
 use Rattle.cfs_job.specs.Steps.{is_unflushed, is_unwritten}
 use Rattle.cfs_job.specs.Views.{payload_seen}
 use Rattle.cfs_job.proofs.JobLemmas.{durable_prop, is_durable, none_unflushed, opened_in, opened_prop, outside_prop, reads_noted, reads_prop, stays_outside}
+use Rattle.cfs_job.proofs.MadeLemmas.{full_tile}
 use Rattle.cfs_job.proofs.job.Job.stands.Goals as goal
 
 pub returns-clause-opened : goal.returns-clause-opened
@@ -42,3 +43,11 @@ returns-clause-durable_second g c =
     let job = job_view g.R.Region.seen g.B.Block.seen g.B.Block.number c.args.self.now in
     λ e. let none = none_unflushed (is_unwritten job.first) (is_unwritten job.second) (is_unflushed job.first) (is_unflushed job.second) e in
     ∥∥₁_elim c.args.self.now.sound (durable_prop (payload_seen job.slots) job.span job.second) (λ k. is_durable (payload_seen job.slots) job.span job.second none.1 k.of_second)
+
+pub returns-clause-full_first : goal.returns-clause-full_first
+returns-clause-full_first g c =
+    full_tile g.B.Block.seen g.B.Block.number g.met.B.Block.full c.args.self.now.first
+
+pub returns-clause-full_second : goal.returns-clause-full_second
+returns-clause-full_second g c =
+    full_tile g.B.Block.seen g.B.Block.number g.met.B.Block.full c.args.self.now.second
