@@ -1,6 +1,6 @@
 //! The live entries of slots, each by itself and against the lower ones.
-ghost use Rattle.std.specs.Prelude.{All, ◌≡◌, ◌==◌, ◌&&◌, ◌<◌, ◌≤◌, ◌+◌, ◌*◌, ◌^◌, [], ◌∷◌, length};
-ghost use Rattle.std.specs.Prelude.{IfSome, is_some, nat_eq, true, ◌≢◌};
+ghost use Rattle.std.specs.Prelude.{All, ◌≡◌, ◌==◌, ◌&&◌, ◌<◌, ◌≤◌, ◌+◌, ◌-◌, ◌^◌, [], ◌∷◌, length};
+ghost use Rattle.std.specs.Prelude.{IfSome, OnOk, is_some, nat_eq, ◌≢◌};
 ghost use Rattle.std.specs.HashMap.{get};
 ghost use Rattle.std.proofs.Math.ListN.{get_or};
 ghost use Rattle.cfs_image.specs.Checks.{damage_of};
@@ -54,7 +54,8 @@ fn check_length(
 /// Checks where a write ends.
 fn check_end(at: u64, words: &[u64; HEAD_WORDS]) -> Result<(), Fault>
     requires { at < 2 ^ 48 }
-    ensures { reported result ≡ damage_of (end_check at words.now ∷ []) }
+    ensures named { reported result ≡ damage_of (end_check at words.now ∷ []) }
+    ensures end { OnOk result (end_of words.now ≤ 1048576) }
 {
     let end = words[3].saturating_add(count_of(words));
     ensure(end <= LONGEST_FILE, at + 24, end, LONGEST_FILE)
@@ -74,7 +75,8 @@ fn check_truncate(at: u64, words: &[u64; HEAD_WORDS]) -> Result<(), Fault>
 #[tactic(auto, using(crate::proofs::FirstFaults::first_faults))]
 fn check_write(at: u64, words: &[u64; HEAD_WORDS]) -> Result<(), Fault>
     requires { at < 2 ^ 48 }
-    ensures { reported result ≡ damage_of (write_checks at words.now) }
+    ensures named { reported result ≡ damage_of (write_checks at words.now) }
+    ensures end { OnOk result (end_of words.now ≤ 1048576) }
 {
     check_length(at, words, 1, BLOCK_LEN)?;
     check_end(at, words)
@@ -92,7 +94,9 @@ fn check_long(
     requires low { at < 2 ^ 48 }
     requires slot { slot < length slots.now }
     requires few { length slots.now ≤ 2 ^ 31 }
-    ensures { reported result ≡ damage_of (long_checks at nodes.now slots.now slot words.now) }
+    ensures named { reported result ≡
+        damage_of (long_checks at nodes.now slots.now slot words.now) }
+    ensures end { OnOk result (end_of words.now ≤ 1048576) }
 {
     check_length(at, words, BLOCK_LEN + 1, LONGEST_WRITE)?;
     check_set(at, nodes, slots, slot, words)?;
@@ -110,7 +114,9 @@ fn check_request(
     requires low { at < 2 ^ 48 }
     requires slot { slot < length slots.now }
     requires few { length slots.now ≤ 2 ^ 31 }
-    ensures { reported result ≡ damage_of (request_checks at nodes.now slots.now slot words.now) }
+    ensures named { reported result ≡
+        damage_of (request_checks at nodes.now slots.now slot words.now) }
+    ensures end { OnOk result (kind_of words.now ≢ 2 → end_of words.now ≤ 1048576) }
 {
     let kind = kind_of(words);
     if kind == TRUNCATE {
@@ -178,6 +184,27 @@ fn check_block(
     ensure(is_mapped(blocks, words[2], block), at + 24, block, 0)
 }
 
+/// Checks these file blocks, which a write touches.
+fn check_range(
+    at: u64,
+    blocks: &IndexMap<u64, u32>,
+    words: &[u64; HEAD_WORDS],
+    first: u64,
+    end: u64,
+) -> Result<(), Fault>
+    requires low { at < 2 ^ 48 }
+    requires ino { ino_of words.now < 2 ^ 32 }
+    requires end { end < 2 ^ 32 }
+    ensures { reported result ≡ damage_of
+        (checks_from (block_checks at (λ tag. is_some (get nat_eq blocks.now tag)) words.now)
+        first (end - first)) }
+{
+    for block in first..end {
+        check_block(at, blocks, words, block)?;
+    }
+    Ok(())
+}
+
 /// Checks each file block that a write touches.
 fn check_blocks(
     at: u64,
@@ -187,17 +214,18 @@ fn check_blocks(
     requires low { at < 2 ^ 48 }
     requires ino { ino_of words.now < 2 ^ 32 }
     requires end { end_of words.now ≤ 1048576 }
-    requires some { 1 ≤ count_of words.now }
     ensures { reported result ≡ damage_of
         (checks_from (block_checks at (λ tag. is_some (get nat_eq blocks.now tag)) words.now)
         (first_block words.now) (blocks_touched words.now)) }
 {
-    let first = words[3] / BLOCK_LEN;
-    let end = (words[3] + count_of(words)).div_ceil(BLOCK_LEN);
-    for block in first..end {
-        check_block(at, blocks, words, block)?;
-    }
-    Ok(())
+    let end = words[3] + count_of(words);
+    check_range(
+        at,
+        blocks,
+        words,
+        words[3] / BLOCK_LEN,
+        (end + 4095) / BLOCK_LEN,
+    )
 }
 
 /// Checks each file block that an entry's write touches; a truncate needs none.
@@ -209,7 +237,6 @@ fn check_touched(
     requires low { at < 2 ^ 48 }
     requires ino { ino_of words.now < 2 ^ 32 }
     requires end { kind_of words.now ≢ 2 → end_of words.now ≤ 1048576 }
-    requires some { kind_of words.now ≢ 2 → 1 ≤ count_of words.now }
     ensures { reported result ≡ damage_of
         (touched_checks at (λ tag. is_some (get nat_eq blocks.now tag)) words.now) }
 {
@@ -236,11 +263,11 @@ fn check_entry(
         (entry_checks at nodes.now (λ tag. is_some (get nat_eq blocks.now tag)) slots.now slot
         (get_or slots.now slot [])) }
 {
-    let words = &slots[slot as usize];
-    check_kind(at, words)?;
-    check_request(at, nodes, slots, slot, words)?;
-    check_twin(at, slots, slot, words)?;
-    check_touched(at, blocks, words)
+    let words = slots[slot as usize];
+    check_kind(at, &words)?;
+    check_request(at, nodes, slots, slot, &words)?;
+    check_twin(at, slots, slot, &words)?;
+    check_touched(at, blocks, &words)
 }
 
 /// Checks an open slot of a file. Its words begin at this offset.

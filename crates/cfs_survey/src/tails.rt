@@ -1,6 +1,7 @@
 //! The tails of long writes.
-ghost use Rattle.std.specs.Prelude.{All, ◌≡◌, ◌==◌, ◌&&◌, ◌<◌, ◌≤◌, ◌+◌, ◌%◌, ◌/◌, ◌^◌, [], ◌∷◌, length};
-ghost use Rattle.std.specs.Prelude.{IfSome, is_none, nat_lt};
+ghost use Rattle.std.specs.Prelude.{◌≡◌, ◌==◌, ◌&&◌, ◌<◌, ◌≤◌, ◌+◌, ◌%◌, ◌^◌, [], ◌∷◌, ◌++◌, length};
+ghost use Rattle.std.specs.Prelude.{IfSome, if◌then◌else◌, is_none, nat_lt};
+ghost use Rattle.arrayvec.specs.ArrayVec.{array_vec_len};
 ghost use Rattle.std.specs.List.{flat_map, list_all, list_any};
 ghost use Rattle.std.proofs.Math.ListN.{get_or};
 ghost use Rattle.cfs_image.specs.Checks.{check, damage_of};
@@ -21,6 +22,18 @@ use cfs_slot::{FIRST_SLOT, QUEUE_SLOTS};
 /// The sets of numbers below 16 are below this one.
 const SET_END: u64 = 65_536;
 
+/// Adds a number, where the lowest bit of these is set.
+fn note_number(numbers: &mut ArrayVec<u32, QUEUE_SLOTS>, number: u32, bits: u64)
+    requires { array_vec_len numbers.old < 16 }
+    ensures items { numbers.new.items ≡
+        numbers.old.items ++ (if bits % 2 == 1 then number ∷ [] else []) }
+    ensures len { array_vec_len numbers.new ≤ array_vec_len numbers.old + 1 }
+{
+    if bits % 2 == 1 {
+        numbers.push(number);
+    }
+}
+
 /// The numbers below 16 that are in a set, ascending.
 fn numbers_in(set: u64) -> ArrayVec<u32, QUEUE_SLOTS>
     ensures { result.items ≡ numbers_in set }
@@ -28,9 +41,7 @@ fn numbers_in(set: u64) -> ArrayVec<u32, QUEUE_SLOTS>
     let mut numbers = ArrayVec::new();
     let mut rest = set;
     for number in 0..QUEUE_SLOTS as u32 {
-        if rest % 2 == 1 {
-            numbers.push(number);
-        }
+        note_number(&mut numbers, number, rest);
         rest /= 2;
     }
     numbers
@@ -68,10 +79,10 @@ fn are_tails(slot: u32, words: &[u64; HEAD_WORDS], numbers: &[u32]) -> bool
 }
 
 /// The gate of a slot, or 0 where there is no such slot.
-fn gate_at(slots: &[[u64; HEAD_WORDS]], slot: u32) -> u64
+fn gate_at(slots: &[[u64; HEAD_WORDS]], slot: usize) -> u64
     ensures { result ≡ gate_of (get_or slots.now slot []) }
 {
-    match slots.get(slot as usize) {
+    match slots.get(slot) {
         Some(words) => words[0],
         None => 0,
     }
@@ -84,12 +95,10 @@ fn check_tail(
     from: u32,
     number: u32,
 ) -> Result<(), Fault>
-    requires low { at < 2 ^ 48 }
-    requires from { from < 2 ^ 31 }
-    requires number { number < 16 }
+    requires { at < 2 ^ 48 }
     ensures { reported result ≡ damage_of (tail_checks at slots.now from number) }
 {
-    let gate = gate_at(slots, from + number);
+    let gate = gate_at(slots, from as usize + number as usize);
     ensure(gate == 0, at + 32, gate, 0)
 }
 
@@ -100,9 +109,7 @@ fn check_gates(
     from: u32,
     numbers: &[u32],
 ) -> Result<(), Fault>
-    requires low { at < 2 ^ 48 }
-    requires from { from < 2 ^ 31 }
-    requires numbers { All (λ number. number < 16) numbers.now }
+    requires { at < 2 ^ 48 }
     ensures { reported result ≡ damage_of (flat_map (tail_checks at slots.now from) numbers.now) }
 {
     for number in numbers {
@@ -177,8 +184,30 @@ fn check_owner(
     ensure(owner.is_none(), at + 32, set, device_in(from, owner))
 }
 
-/// Checks the tails of the head in a slot, whose words begin at this offset.
+/// Checks these tails of the head in a slot, whose words begin at this offset.
 #[tactic(auto, using(crate::proofs::FirstFaults::first_faults))]
+fn check_numbers(
+    at: u64,
+    nodes: &[Node],
+    slots: &[[u64; HEAD_WORDS]],
+    slot: u32,
+    words: &[u64; HEAD_WORDS],
+    numbers: &[u32],
+) -> Result<(), Fault>
+    requires low { at < 2 ^ 48 }
+    requires slot { slot < length slots.now }
+    requires few { length slots.now ≤ 2 ^ 31 }
+    ensures { reported result ≡
+        damage_of (set_checks at nodes.now slots.now slot words.now numbers.now) }
+{
+    let set = tails_of(words);
+    let due = tails_due(words);
+    ensure(are_tails(slot, words, numbers), at + 32, set, due)?;
+    check_gates(at, slots, queue_from(slot), numbers)?;
+    check_owner(at, nodes, slots, slot, set, numbers)
+}
+
+/// Checks the tails of the head in a slot, whose words begin at this offset.
 pub(crate) fn check_set(
     at: u64,
     nodes: &[Node],
@@ -192,10 +221,5 @@ pub(crate) fn check_set(
     ensures { reported result ≡ damage_of (set_checks at nodes.now slots.now slot words.now
         (numbers_in (tails_of words.now))) }
 {
-    let set = tails_of(words);
-    let numbers = numbers_in(set);
-    let due = tails_due(words);
-    ensure(are_tails(slot, words, &numbers), at + 32, set, due)?;
-    check_gates(at, slots, queue_from(slot), &numbers)?;
-    check_owner(at, nodes, slots, slot, set, &numbers)
+    check_numbers(at, nodes, slots, slot, words, &numbers_in(tails_of(words)))
 }
