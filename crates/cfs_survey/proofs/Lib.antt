@@ -15,3 +15,4 @@ pub mod TagLemmas
 pub mod ReachedLemmas
 pub mod SlotLemmas
 pub mod LiveLemmas
+pub mod LowLemmas
