@@ -16,3 +16,4 @@ pub mod ReachedLemmas
 pub mod SlotLemmas
 pub mod LiveLemmas
 pub mod LowLemmas
+pub mod MappedLemmas

@@ -12,7 +12,7 @@ use Rattle.cfs_dir.specs.declared.node.Node.{Node}
 use Rattle.cfs_dir.specs.Change.{changed, changed_by, without_replaced}
 use Rattle.cfs_dir.specs.Namespace.{Namespace, node_at, placed, without}
 use Rattle.cfs_dir.specs.Words.{replaced_in}
-use Rattle.cfs_dir.proofs.Members.{find-Some}
+use Rattle.cfs_dir.proofs.Members.{All-In, find-Some}
 use Rattle.cfs_image.specs.Checks.{Check, check, damage_of}
 use Rattle.cfs_journal.specs.Records.{change_of}
 use Rattle.cfs_survey.specs.Changes.{change_checks, create_checks, held_check, ino_of, ino_or}
@@ -24,13 +24,9 @@ use Rattle.cfs_survey.specs.Faults.{at_least, at_most, checks_from}
 use Rattle.cfs_survey.specs.Fields.{field_checks}
 use Rattle.cfs_survey.specs.Journals.{changes_checks, reached_checks, tree_after, record_at, position_of}
 use Rattle.cfs_survey.specs.Journals.{places_after}
+use Rattle.cfs_survey.specs.Low.{IsLow}
 use Rattle.cfs_survey.proofs.ChangeLemmas.{told_create, told_move, told_remove, tree_more}
 use Rattle.cfs_survey.proofs.FirstFaults.{holds_at, passed, sound_parts}
-
--- the record and the inode number have room
-pub record IsLow (node : Node) : Type 0 where
-  pub rec : node.rec < 256
-  pub ino : node.ino < 4294967296
 
 placed_low : (node : Node) (xs : List Node) → IsLow node → All IsLow xs →
     All IsLow (placed node xs)
@@ -86,7 +82,8 @@ held_low at ino rec nodes None is sound low = absurd (cc)
 held_low at ino rec nodes (Some node) is sound low =
     let same : ino ≡ node.ino = eqb-true ino node.ino (passed (held_check at (Some node) ino) sound) in
     let found = find-Some (λ n. n.rec == rec) nodes node (sym is) in
-    ?
+    let here : IsLow node = All-In IsLow nodes node low found.0 in
+    subst (λ n. n < 4294967296) (sym same) here.ino
 
 moved_low : (at : ℕ) (tree : Namespace) (words : List ℕ) → All IsLow tree.nodes →
     damage_of (move_checks at tree.nodes words) ≡ None → IsLow (node_told words)

@@ -84,8 +84,7 @@ end_of words = offset_of words + count_of words
 
 abbrev pub end_check : ℕ → List ℕ → Check
 end_check at words =
-    check (nat_le (end_of words) 1048576) (at + 24) (min (end_of words) 18446744073709551615)
-    1048576
+    at_most 1048576 (at + 24) (min (end_of words) 18446744073709551615)
 
 abbrev pub truncate_checks : ℕ → List ℕ → List Check
 truncate_checks at words =

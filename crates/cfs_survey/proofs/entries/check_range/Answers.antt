@@ -28,3 +28,11 @@ loop-block-preserved c =
     ap (λ n. damage_of (checks_from each c.args.first n)) next
     ∙ sound_more each c.args.first (c.loop-block.block - c.args.first) c.loop-block.block
     (omega arith) c.loop-block.invariant (sym c.in_ok-check_block.ensures)
+
+pub returns : goal.returns
+returns c =
+    let each = block_checks c.args.at (λ tag. is_some (get nat_eq c.args.blocks.now tag))
+    c.args.words.now in
+    let all : c.loop-block.block - c.args.first ≡ c.args.end - c.args.first = omega arith in
+    sym (ap (λ n. damage_of (checks_from each c.args.first n)) (sym all)
+    ∙ c.loop-block.invariant)
