@@ -23,7 +23,10 @@ use Rattle.cfs_survey.specs.Changes.{standing_checks, tree_checks}
 use Rattle.cfs_survey.specs.Faults.{at_least, at_most, checks_from}
 use Rattle.cfs_survey.specs.Fields.{field_checks}
 use Rattle.cfs_survey.specs.Journals.{changes_checks, reached_checks, tree_after, record_at, position_of}
-use Rattle.cfs_survey.specs.Journals.{places_after}
+use Rattle.cfs_survey.specs.Journals.{gates_checks, journal_checks, last_reached, places_after}
+use Rattle.cfs_survey.specs.Journals.{reached, table_places}
+use Rattle.cfs_journal.specs.Standing.{changes_above}
+use Rattle.cfs_dir.specs.Tree.{IsTree}
 use Rattle.cfs_survey.specs.Low.{IsLow}
 use Rattle.cfs_survey.proofs.ChangeLemmas.{told_create, told_move, told_remove, tree_more}
 use Rattle.cfs_survey.proofs.FirstFaults.{holds_at, passed, sound_parts}
@@ -171,3 +174,20 @@ all_low at through table places journal sound low =
     subst (λ rows. All IsLow (tree_after table rows).nodes)
     (take_all (length journal) journal (omega arith))
     (after_low at through table places journal sound low (length journal) (omega arith))
+
+pub journal_low : (table_at at through : ℕ) (table : Namespace) (journal : List (List ℕ)) →
+    damage_of (journal_checks table_at at through table journal) ≡ None → All IsLow table.nodes →
+    All IsLow (changed_by table (changes_above through journal)).nodes
+journal_low table_at at through table journal sound low =
+    let changes = changes_checks at through table (table_places table_at) (reached through journal) in
+    let gates = gates_checks at journal (last_reached through journal) in
+    let parts = sound_parts changes gates sound in
+    all_low at through table (table_places table_at) (reached through journal) parts.0 low
+
+-- the nodes of a tree in a table
+pub table_low : (nodes : List Node) (next : ℕ) → All (λ node. node.rec < 256) nodes →
+    IsTree nodes next → All IsLow nodes
+table_low nodes next records tree = λ k d below. record {
+  rec = records k d below;
+  ino = let low = (tree.numbers k d below).1 in let high = tree.next_high in omega (arith, low, high);
+}
