@@ -160,7 +160,7 @@ slot_same at nodes f g slots slot agree =
 pub slots_same : (at : ℕ) (nodes : List Node) (f g : ℕ → Bool) (slots : List (List ℕ)) →
     Agree nodes f g →
     damage_of (slots_checks at nodes f slots) ≡ damage_of (slots_checks at nodes g slots)
-unfolding slots_checks, checks_from
+unfolding slots_checks checks_from
 slots_same at nodes f g slots agree =
     same_each (slot_checks at nodes f slots) (slot_checks at nodes g slots)
     (range_with_len 0 (length slots)) (λ slot. slot_same at nodes f g slots slot agree)

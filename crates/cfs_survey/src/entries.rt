@@ -194,6 +194,7 @@ fn check_range(
 ) -> Result<(), Fault>
     requires low { at < 2 ^ 48 }
     requires ino { ino_of words.now < 2 ^ 32 }
+    requires order { first ≤ end }
     requires end { end < 2 ^ 32 }
     ensures { reported result ≡ damage_of
         (checks_from (block_checks at (λ tag. is_some (get nat_eq blocks.now tag)) words.now)

@@ -36,3 +36,10 @@ returns c =
     let all : c.loop-block.block - c.args.first ≡ c.args.end - c.args.first = omega arith in
     sym (ap (λ n. damage_of (checks_from each c.args.first n)) (sym all)
     ∙ c.loop-block.invariant)
+
+pub loop-block-init : goal.loop-block-init
+loop-block-init c =
+    let each = block_checks c.args.at (λ tag. is_some (get nat_eq c.args.blocks.now tag))
+    c.args.words.now in
+    let none : c.args.first - c.args.first ≡ 0 = omega arith in
+    ap (λ n. damage_of (checks_from each c.args.first n)) none ∙ none_yet each c.args.first
