@@ -15,5 +15,3 @@ pub mod TagLemmas
 pub mod ReachedLemmas
 pub mod SlotLemmas
 pub mod LiveLemmas
-pub mod LowLemmas
-pub mod MappedLemmas

@@ -11,4 +11,3 @@ pub mod Mapped
 pub mod Tags
 pub mod Slots
 pub mod Live
-pub mod Low
