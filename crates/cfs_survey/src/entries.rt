@@ -311,7 +311,7 @@ fn check_slot(
         (slot_checks at nodes.now (λ tag. is_some (get nat_eq blocks.now tag)) slots.now slot) }
 {
     if is_entry(nodes, &slots[slot as usize]) {
-        let at = at + 4144 * u64::from(slot);
+        let at = at + 4144 * slot as u64;
         return check_open(at, nodes, blocks, slots, slot);
     }
     Ok(())
