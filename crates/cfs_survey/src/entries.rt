@@ -32,17 +32,17 @@ fn check_kind(at: u64, words: &[u64; HEAD_WORDS]) -> Result<(), Fault>
 {
     let kind = kind_of(words);
     let tails = tails_of(words);
-    ensure(WRITE <= kind && kind <= LONG_WRITE, at + 32, words[4], LONG_WRITE)?;
+    ensure(
+        WRITE <= kind && kind <= LONG_WRITE,
+        at + 32,
+        words[4],
+        LONG_WRITE,
+    )?;
     ensure(kind == LONG_WRITE || tails == 0, at + 32, tails, 0)
 }
 
 /// Checks how many bytes of payload a slot has.
-fn check_length(
-    at: u64,
-    words: &[u64; HEAD_WORDS],
-    least: u64,
-    most: u64,
-) -> Result<(), Fault>
+fn check_length(at: u64, words: &[u64; HEAD_WORDS], least: u64, most: u64) -> Result<(), Fault>
     requires { at < 2 ^ 48 }
     ensures { reported result ≡ damage_of (length_checks at words.now least most) }
 {

@@ -89,12 +89,7 @@ fn gate_at(slots: &[[u64; HEAD_WORDS]], slot: usize) -> u64
 }
 
 /// Checks the gate of the tail of this number. The queue's first slot is `from`.
-fn check_tail(
-    at: u64,
-    slots: &[[u64; HEAD_WORDS]],
-    from: u32,
-    number: u32,
-) -> Result<(), Fault>
+fn check_tail(at: u64, slots: &[[u64; HEAD_WORDS]], from: u32, number: u32) -> Result<(), Fault>
     requires { at < 2 ^ 48 }
     ensures { reported result ≡ damage_of (tail_checks at slots.now from number) }
 {
