@@ -13,3 +13,5 @@ pub mod WalkLemmas
 pub mod PlacedLemmas
 pub mod TagLemmas
 pub mod ReachedLemmas
+pub mod SlotLemmas
+pub mod LiveLemmas

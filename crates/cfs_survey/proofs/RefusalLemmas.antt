@@ -35,3 +35,8 @@ pub refused_same : {T : Type 0} (xs ys : List Check) (r : Result T SurveyRefusal
 refused_same xs ys (Ok x) e h = tt
 refused_same xs ys (Err (Damaged fault)) e h = sym e ∙ h
 refused_same xs ys (Err NoMemory) e h = tt
+
+pub refuses_same : (xs ys : List Check) (refusal : SurveyRefusal) →
+    damage_of xs ≡ damage_of ys → Refuses xs refusal → Refuses ys refusal
+refuses_same xs ys (Damaged fault) e h = sym e ∙ h
+refuses_same xs ys NoMemory e h = tt

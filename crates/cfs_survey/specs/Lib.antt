@@ -9,3 +9,5 @@ pub mod Tables
 pub mod SoFar
 pub mod Mapped
 pub mod Tags
+pub mod Slots
+pub mod Live
