@@ -38,7 +38,7 @@ map-same_at f xs at d y less same =
     ∙ (ap (set (map f xs) at) (same ∙ sym (get_or-map f xs at d (f d) less))
     ∙ set-get_or (map f xs) at (f d))
 
-pub devices-same_at : {X : Type 0} (see : X → Seen BlockStep) (xs : List X) (at : ℕ) (d y : X) →
+pub devices-same_at : {X Form : Type 0} (see : X → Seen Form) (xs : List X) (at : ℕ) (d y : X) →
     at < length xs → devices_of (see y) ≡ devices_of (see (get_or xs at d)) →
     all_devices (map see (set xs at y)) ≡ all_devices (map see xs)
 devices-same_at see xs at d y less same =

@@ -21,7 +21,7 @@ use Rattle.cfs_recover.specs.Pieces.{with_writes}
 use Rattle.cfs_recover.specs.Held.{AllBring, AllLieWithin, AreFull, Brings, IsInPiece, PiecesHold}
 use Rattle.cfs_recover.specs.Held.{SomeHas}
 
-abbrev content_in : List (Seen BlockStep) → ℕ → Content
+abbrev pub content_in : List (Seen BlockStep) → ℕ → Content
 content_in blocks at = content_of (seen_at blocks at)
 
 byte_in : List (Seen BlockStep) → ℕ → ℕ → ℕ
@@ -168,7 +168,7 @@ in-or-not piece at k = elim (same_or_not piece.at at) [
   | inr apart ↦ inr (λ h. apart h.0)
 ]
 
-tags-stay : (pieces : List Piece) (bytes : List ℕ) (blocks : List (Seen BlockStep)) (at : ℕ) →
+pub tags-stay : (pieces : List Piece) (bytes : List ℕ) (blocks : List (Seen BlockStep)) (at : ℕ) →
     AreFull blocks → AllLieWithin (length blocks) (length bytes) pieces →
     (content_in (with_writes pieces bytes blocks) at).tag ≡ (content_in blocks at).tag
 tags-stay [] bytes blocks at full within = refl
@@ -179,7 +179,7 @@ tags-stay (piece ∷ pieces) bytes blocks at full within =
     ∙ write-tag blocks piece.at piece.from (bytes_of piece bytes) at
     (fits-in blocks piece bytes full within.0)
 
-flushes-stay : (pieces : List Piece) (blocks : List (Seen BlockStep)) (at : ℕ) →
+pub flushes-stay : (pieces : List Piece) (blocks : List (Seen BlockStep)) (at : ℕ) →
     content_in (with_flushes pieces blocks) at ≡ content_in blocks at
 flushes-stay [] blocks at = refl
 flushes-stay (piece ∷ pieces) blocks at =
@@ -288,7 +288,7 @@ pieces-own ino request first (piece ∷ pieces) bytes blocks at p full within br
 
 -- ---- the contents
 
-contents-at : (blocks : List (Seen BlockStep)) (at : ℕ) →
+pub contents-at : (blocks : List (Seen BlockStep)) (at : ℕ) →
     content_at (map content_of blocks) at ≡ content_in blocks at
 contents-at blocks at =
     get_or-map content_of blocks at (record { device = 0; also = []; history = [] })

@@ -1,6 +1,7 @@
 //! What the calls come to, as contracts of functions that do nothing.
 ghost use Rattle.cfs_recover.specs.Brought.{BytesAreBrought};
 ghost use Rattle.cfs_recover.specs.Held.{PiecesHold};
+ghost use Rattle.cfs_recover.specs.Settled.{RestIsLeft};
 ghost use Rattle.cfs_recover.specs.Sure.{PiecesAreSure, SureBlocksAreOf};
 
 /// Once the pieces of a request are written and flushed, its bytes stand in the blocks of the file.
@@ -22,4 +23,9 @@ pub fn sure_blocks_are_of()
 /// else is as it was.
 pub fn bytes_are_brought()
     ensures { BytesAreBrought }
+{}
+
+/// Once an entry is home, the rest of its file's live entries is left, and all those of others.
+pub fn rest_is_left()
+    ensures { RestIsLeft }
 {}
