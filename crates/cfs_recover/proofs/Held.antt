@@ -30,13 +30,13 @@ byte_in blocks at k = get_or (content_in blocks at).bytes k 0
 -- ---- one write
 
 -- the content of a block after another one changed, and after it changed itself
-set-there : (blocks : List (Seen BlockStep)) (a : ℕ) (new : Seen BlockStep) (at : ℕ) →
+pub set-there : (blocks : List (Seen BlockStep)) (a : ℕ) (new : Seen BlockStep) (at : ℕ) →
     (at ≡ a → ⊥) → content_in (set blocks a new) at ≡ content_in blocks at
 set-there blocks a new at apart =
     ap content_of
     (get_or-set_other blocks a at new (record { device = 0; also = []; history = [] }) apart)
 
-set-here : (blocks : List (Seen BlockStep)) (a : ℕ) (new : Seen BlockStep) (at : ℕ) → at ≡ a →
+pub set-here : (blocks : List (Seen BlockStep)) (a : ℕ) (new : Seen BlockStep) (at : ℕ) → at ≡ a →
     a < length blocks → content_in (set blocks a new) at ≡ content_of new
 set-here blocks a new at same less =
     ap (content_in (set blocks a new)) same

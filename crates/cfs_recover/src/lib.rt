@@ -13,10 +13,10 @@ mod laws;
 mod piece;
 mod words;
 
-pub use blocks::{flush_block, flush_pieces, write_block, write_pieces};
+pub use blocks::{ZEROS, flush_block, flush_pieces, write_block, write_pieces, write_through};
 pub use ends::settle;
 pub use entry::Entry;
-pub use home::{bring_bytes, bring_home};
+pub use home::{bring_bytes, bring_home, bring_through, zero_home};
 pub use laws::{bytes_are_brought, pieces_are_sure, pieces_hold, rest_is_left, sure_blocks_are_of};
 pub use piece::Piece;
 pub use words::{close_gate, set_size};
