@@ -90,7 +90,6 @@ module _ (files : List File) (file : File) (entry : Entry) (live : ℕ × Reques
     (old : List (Seen BlockStep)) (pieces : List Piece) (bytes : List ℕ)
     (takes : TakesUp files file entry live rest start first bytes pieces regions old)
     (full : AreFull old) (within : AllLieWithin (length old) (length bytes) pieces) where
-
   pub sure-old : AreSure old
   sure-old = have-sure first old full takes.begins.stands.blocks_are
 

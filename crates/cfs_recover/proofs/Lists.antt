@@ -1,5 +1,5 @@
 -- Counts and devices of regions and blocks together, and facts of each of a list.
-use Rattle.std.proofs.Common.{ℕ, zero, suc, ◌<◌, ◌≡◌, ◌∙◌, Result, Ok, Err, List, [], ◌∷◌, ◌++◌}
+use Rattle.std.proofs.Common.{ℕ, zero, suc, ◌<◌, ◌≡◌, Result, Ok, Err, List, [], ◌∷◌, ◌++◌}
 use Rattle.std.proofs.Common.{length, map, get_or, inl, inr, sym, ap, subst, arith}
 use Rattle.cfs_pmem.specs.AllMoments.{AreDistinct, IsApartFrom}
 use Rattle.cfs_pmem.specs.Images.{Seen, WordStep}

@@ -1,5 +1,5 @@
 -- Where a crash leaves one disk alone, it leaves each block as it reads.
-use Rattle.std.proofs.Common.{ℕ, zero, suc, ◌<◌, ◌≡◌, ◌∙◌, List, [], ◌∷◌, length, map, get_or}
+use Rattle.std.proofs.Common.{ℕ, zero, suc, ◌≡◌, ◌∙◌, List, [], ◌∷◌, map}
 use Rattle.std.proofs.Common.{set, sym, ap, arith}
 use Rattle.std.proofs.lemmas.List.{get_or-set_same, length-map}
 use Rattle.cfs_pmem.specs.Images.{Seen, WordStep, IsImage, words_of}

@@ -1,8 +1,7 @@
 -- The size word of an entry is set, and its gate is closed.
 use Rattle.std.proofs.Common.{ℕ, ◌+◌, ◌<◌, ◌≡◌, ◌≢◌, ◌∙◌, ◌==◌, ◌&&◌, Bool, true, false, not}
-use Rattle.std.proofs.Common.{if◌then◌else◌, List, [], ◌∷◌, ◌++◌, length, get_or, set, inl, inr}
+use Rattle.std.proofs.Common.{if◌then◌else◌, List, [], length, get_or, inl, inr}
 use Rattle.std.proofs.Common.{refl, sym, ap, subst, arith}
-use Rattle.std.specs.List.{Contains}
 use Rattle.std.proofs.lemmas.Bool.Decides.{nat_tests}
 use Rattle.std.proofs.lemmas.List.{get_or-set_other, get_or-set_same, length-set}
 use Rattle.cfs_file.specs.declared.request.Request.{Request}
@@ -17,11 +16,10 @@ use Rattle.cfs_block.specs.BlockImages.{BlockStep}
 use Rattle.cfs_block.specs.Devices.{DeviceImages, numbers_of}
 use Rattle.cfs_slot.specs.Words.{gate_of, ino_of, is_live, mark_of}
 use Rattle.cfs_slot.specs.Tails.{tails_at}
-use Rattle.cfs_medium.specs.Store.{entry_at, live_in}
 use Rattle.cfs_medium.proofs.Slots.{not_live-none}
 use Rattle.cfs_home.specs.Calls.{AreWordsOf, HaveWordsOf, MountMoments, SetsFirst, disk_of}
 use Rattle.cfs_home.specs.Calls.{with_size}
-use Rattle.cfs_home.specs.Disks.{AllStay, AreReady, ClosesSlot, Disk, File, IsLowest, SetsSize}
+use Rattle.cfs_home.specs.Disks.{AllStay, AreReady, ClosesSlot, Disk, File, SetsSize}
 use Rattle.cfs_home.specs.Disks.{part_of, shut}
 use Rattle.cfs_home.specs.Parts.{ArePlaced, IsHome, IsPlaced, size_after}
 use Rattle.cfs_home.proofs.Behind.{gates-closed, sizes-set}
@@ -31,7 +29,7 @@ use Rattle.cfs_home.proofs.Slots.{shut-lowest, shut-same}
 use Rattle.cfs_recover.specs.declared.entry.Entry.{Entry}
 use Rattle.cfs_recover.specs.Begins.{Begins, Stands, both}
 use Rattle.cfs_recover.specs.Brought.{AreBrought}
-use Rattle.cfs_recover.specs.Settled.{RestIsLeft, settled, with_entry_home, with_size_word}
+use Rattle.cfs_recover.specs.Settled.{RestIsLeft, settled, with_size_word}
 use Rattle.cfs_recover.specs.Words.{HaveFirstWords, with_first}
 use Rattle.cfs_recover.proofs.Lists.{distinct-regions}
 
@@ -75,7 +73,6 @@ module _ (files : List File) (file : File) (entry : Entry) (live : ℕ × Reques
     (rest : List (ℕ × Request)) (start second : Disk) (regions : List (Seen WordStep))
     (blocks : List (Seen BlockStep))
     (brought : AreBrought files file entry live rest start second regions blocks) where
-
   ready : AreReady files second
   ready = (goes-on files start second second brought.begins.stands.stay).0
 
@@ -185,7 +182,6 @@ module _ (files : List File) (file : File) (entry : Entry) (live : ℕ × Reques
     (rest : List (ℕ × Request)) (start second : Disk) (regions : List (Seen WordStep))
     (blocks : List (Seen BlockStep))
     (sized : IsSized files file entry live rest start second regions blocks) where
-
   closed-stay : (third : Disk) → ClosesSlot entry.slot second third → AllStay files start third
   closed-stay third step =
       let on = goes-on files start second third sized.begins.stands.stay in
@@ -244,8 +240,11 @@ first-words place word regions some k less = elim (same_or_not k place) [
     new = kept (wrote 0 word (seen_at regions place))
 
     within : k < length regions
-    within = omega (arith, less,
-        length-set regions place (kept (wrote 0 word (seen_at regions place))))
+    within = omega (
+      arith,
+      less,
+      length-set regions place (kept (wrote 0 word (seen_at regions place))),
+    )
 
 pub size-words : (entry : Entry) (regions : List (Seen WordStep)) → HaveFirstWords regions →
     HaveFirstWords (with_size_word entry regions)

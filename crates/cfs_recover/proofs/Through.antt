@@ -1,18 +1,17 @@
 -- Pieces that are each flushed before the next one is written come to the same contents.
-use Rattle.std.proofs.Common.{ℕ, ◌≡◌, ◌∙◌, List, [], ◌∷◌, length, map, inl, inr, refl, sym, ap}
+use Rattle.std.proofs.Common.{ℕ, ◌≡◌, ◌∙◌, List, [], ◌∷◌, length, inl, inr, refl, sym, ap}
 use Rattle.std.proofs.Common.{arith}
 use Rattle.std.proofs.lemmas.Bool.{cases_lt}
 use Rattle.std.proofs.lemmas.List.{length-set, set_past}
 use Rattle.cfs_core.proofs.Order.{same_or_not}
 use Rattle.cfs_pmem.specs.Images.{Seen}
 use Rattle.cfs_pmem.specs.Objects.{seen_at}
-use Rattle.cfs_block.specs.BlockImages.{BlockStep, Content, content_of, kept, with_bytes, wrote}
-use Rattle.cfs_medium.specs.Depicts.{content_at}
+use Rattle.cfs_block.specs.BlockImages.{BlockStep, Content, kept, with_bytes, wrote}
 use Rattle.cfs_recover.specs.declared.piece.Piece.{Piece}
 use Rattle.cfs_recover.specs.Held.{AllLieWithin, AreFull}
 use Rattle.cfs_recover.specs.Pieces.{bytes_of, with_flush, with_flushes, with_write, with_writes}
 use Rattle.cfs_recover.specs.Pieces.{with_writes_through}
-use Rattle.cfs_recover.proofs.Held.{content_in, contents-at, flushes-stay, set-here, set-there}
+use Rattle.cfs_recover.proofs.Held.{content_in, flushes-stay, set-here, set-there}
 use Rattle.cfs_recover.proofs.Held.{writes-full}
 
 -- they read the same

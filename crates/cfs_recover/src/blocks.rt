@@ -134,9 +134,9 @@ pub fn write_through<B: Block, P: Power>(
     ensures cause { HaveCause (map B.faults blocks.old) (map B.faults blocks.new) result }
 {
     for piece in pieces {
-        let part = &bytes[piece.start..piece.end];
-        write_block(blocks, power, piece.at, piece.from, part)?;
-        flush_block(blocks, power, piece.at)?;
+        let (at, from) = (piece.at, piece.from);
+        write_block(blocks, power, at, from, &bytes[piece.start..piece.end])?;
+        flush_block(blocks, power, at)?;
     }
     Ok(())
 }

@@ -17,9 +17,9 @@ ghost use Rattle.cfs_recover.specs.Settled.{settled, with_entry_home};
 ghost use Rattle.cfs_recover.specs.Words.{HaveFirstWords};
 
 use crate::blocks::{ZEROS, flush_pieces, write_pieces, write_through};
+use crate::ends::settle;
 use crate::entry::Entry;
 use crate::piece::Piece;
-use crate::ends::settle;
 use cfs_block::Block;
 use cfs_pmem::{DeviceFault, Power, Region};
 

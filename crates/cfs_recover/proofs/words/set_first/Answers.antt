@@ -1,4 +1,4 @@
-use Rattle.std.proofs.Common.{◌≡◌, List, map, get_or, set, sym, subst, arith}
+use Rattle.std.proofs.Common.{List, map, get_or, set, sym, subst, arith}
 use Rattle.std.proofs.lemmas.List.{length-map}
 use Rattle.cfs_pmem.specs.Images.{Seen, WordStep, IsImage, IsSetFrom}
 use Rattle.cfs_pmem.specs.Moments.{Moments}
