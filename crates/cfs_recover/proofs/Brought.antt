@@ -100,9 +100,9 @@ module _ (files : List File) (file : File) (entry : Entry) (live : ℕ × Reques
       (map content_of (with_flushes pieces (with_writes pieces bytes old)))
   hold = pieces-hold file.ino live.1 pieces bytes old full within
       (subst (λ (contents : List Content). AllBring file.ino live.1 contents bytes pieces)
-      (sym read) takes.pieces.bring)
+      (sym read) takes.cut.bring)
       (subst (λ (contents : List Content). AreAllOf file.ino live.1 contents pieces) (sym read)
-      takes.pieces.all)
+      takes.cut.all)
 
   tags : HaveTags first.blocks
       (map content_of (with_flushes pieces (with_writes pieces bytes old)))

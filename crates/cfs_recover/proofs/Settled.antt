@@ -104,6 +104,7 @@ module _ (files : List File) (file : File) (entry : Entry) (live : ℕ × Reques
       HaveWordsOf (with_size entry.node entry.size_after second) news →
       AreDistinct (numbers_of (both news blocks)) →
       IsSized files file entry live rest start (with_size entry.node entry.size_after second) news
+      blocks
   sized-of news words distinct = record {
     begins = record {
       stands = record {

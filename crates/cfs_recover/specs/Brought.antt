@@ -35,7 +35,7 @@ pub record TakesUp (files : List File) (file : File) (entry : Entry) (live : ℕ
     (regions : List (Seen WordStep)) (blocks : List (Seen BlockStep)) : Type 0 where
   pub begins : Begins files file entry.slot live rest start first regions blocks
   pub is : IsEntryOf entry file live.1 first
-  pub pieces : AreAllPieces file.ino live.1 first.blocks bytes pieces
+  pub cut : AreAllPieces file.ino live.1 first.blocks bytes pieces
   pub mapped : IsMapped file.ino live.1 first.blocks
 
 -- the disk with these blocks, as they read

@@ -1,4 +1,4 @@
-use Rattle.std.proofs.Common.{◌∙◌, List, length, map, ap, arith}
+use Rattle.std.proofs.Common.{◌+◌, ◌∙◌, List, length, map, ap, arith}
 use Rattle.std.proofs.lemmas.List.{length-map}
 use Rattle.cfs_pmem.specs.Images.{Seen, WordStep}
 use Rattle.cfs_pmem.proofs.AllMomentLemmas.{all_after}
@@ -8,8 +8,8 @@ use Rattle.cfs_recover.proofs.BlockCalls.{on-ok}
 use Rattle.cfs_recover.proofs.Settled.{gate-moments, settled-stands, settled-words, sized-at}
 use Rattle.cfs_recover.proofs.ends.settle.Goals as goal
 
-pub close_gate-requires-within : goal.close_gate-requires-within
-close_gate-requires-within g c =
+pub close_gate-requires-clause-within : goal.close_gate-requires-clause-within
+close_gate-requires-clause-within g c =
     settled-words c.args.entry (map g.R.Region.seen c.args.regions.now)
     (map g.R.Region.seen c.settle_size.new.regions) c.in_ok-settle_size.ensures.ok
     c.requires.words

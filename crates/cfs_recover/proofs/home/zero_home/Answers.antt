@@ -12,20 +12,20 @@ use Rattle.cfs_recover.proofs.Lists.{cause-back, cause-front, distinct-back, dis
 use Rattle.cfs_recover.proofs.Lists.{distinct-front, full-all, within-all}
 use Rattle.cfs_recover.proofs.home.zero_home.Goals as goal
 
-pub bring_through-requires-distinct : goal.bring_through-requires-distinct
-bring_through-requires-distinct g c =
+pub bring_through-requires-clause-distinct : goal.bring_through-requires-clause-distinct
+bring_through-requires-clause-distinct g c =
     distinct-back (all_devices (map g.R.Region.seen c.args.regions.now))
     (all_devices (map g.B.Block.seen c.args.blocks.now)) c.requires.distinct
 
-pub settle-requires-distinct : goal.settle-requires-distinct
-settle-requires-distinct g c =
+pub settle-requires-clause-distinct : goal.settle-requires-clause-distinct
+settle-requires-clause-distinct g c =
     distinct-front (all_devices (map g.R.Region.seen c.args.regions.now))
     (all_devices (map g.B.Block.seen c.args.blocks.now)) c.requires.distinct
 
 pub returns-in_err-bring_through-clause-moments : goal.returns-in_err-bring_through-clause-moments
 returns-in_err-bring_through-clause-moments g c = λ files file live rest start first takes.
     c.bring_through.ensures.moments files file c.args.entry.slot live rest start first
-    (map g.R.Region.seen c.args.regions.now) takes.begins takes.pieces.touch
+    (map g.R.Region.seen c.args.regions.now) takes.begins takes.cut.touch
 
 pub returns-in_err-bring_through-clause-devices : goal.returns-in_err-bring_through-clause-devices
 returns-in_err-bring_through-clause-devices g c =
@@ -41,7 +41,7 @@ returns-in_err-bring_through-clause-cause g c =
 pub returns-clause-moments : goal.returns-clause-moments
 returns-clause-moments g c = λ files file live rest start first takes.
     let moments = c.bring_through.ensures.moments files file c.args.entry.slot live rest start first
-    (map g.R.Region.seen c.args.regions.now) takes.begins takes.pieces.touch in
+    (map g.R.Region.seen c.args.regions.now) takes.begins takes.cut.touch in
     all_after moments
     (c.settle.ensures.moments files file live rest start
     (with_blocks (map g.B.Block.seen c.bring_through.new.blocks) first)
@@ -80,7 +80,7 @@ returns-clause-stands g c =
     (map g.B.Block.seen c.args.blocks.now) (map g.B.Block.seen c.bring_through.new.blocks)
     c.bring_through.ensures.devices c.requires.distinct)
     (c.bring_through.ensures.moments files file c.args.entry.slot live rest start first
-    (map g.R.Region.seen c.args.regions.now) takes.begins takes.pieces.touch)))
+    (map g.R.Region.seen c.args.regions.now) takes.begins takes.cut.touch)))
     c.settle.ensures.stands
 
 pub returns-clause-devices : goal.returns-clause-devices
