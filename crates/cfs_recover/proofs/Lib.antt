@@ -8,3 +8,6 @@ pub mod Through
 pub mod Begins
 pub mod Brought
 pub mod Settled
+pub mod Swept
+pub mod Untagged
+pub mod Cut

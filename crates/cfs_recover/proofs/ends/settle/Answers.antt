@@ -1,4 +1,4 @@
-use Rattle.std.proofs.Common.{◌+◌, ◌∙◌, List, length, map, ap, arith}
+use Rattle.std.proofs.Common.{◌+◌, ◌∙◌, List, map, ap, arith}
 use Rattle.std.proofs.lemmas.List.{length-map}
 use Rattle.cfs_pmem.specs.Images.{Seen, WordStep}
 use Rattle.cfs_pmem.proofs.AllMomentLemmas.{all_after}

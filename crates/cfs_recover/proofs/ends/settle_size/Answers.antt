@@ -1,4 +1,4 @@
-use Rattle.std.proofs.Common.{◌∙◌, length, map, refl, arith}
+use Rattle.std.proofs.Common.{◌∙◌, map, refl, arith}
 use Rattle.std.proofs.lemmas.List.{length-map}
 use Rattle.cfs_recover.proofs.BlockCalls.{on-ok, same-cause}
 use Rattle.cfs_recover.proofs.Settled.{none-moments, size-moments, size-right, size-wrong}
