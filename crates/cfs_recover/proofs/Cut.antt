@@ -1,8 +1,8 @@
 -- Pieces of writes and truncates.
-use Rattle.std.proofs.Common.{ℕ, ◌+◌, ◌<◌, ◌≡◌, ◌∙◌, List, get_or, refl, ap, arith}
+use Rattle.std.proofs.Common.{ℕ, ◌+◌, ◌<◌, ◌≡◌, ◌∙◌, List, length, get_or, refl, ap, arith}
 use Rattle.std.proofs.lemmas.List.{get_or-replicate}
 use Rattle.cfs_block.specs.BlockImages.{zeros}
-use Rattle.cfs_block.proofs.BlockLemmas.{zeros-are}
+use Rattle.cfs_block.proofs.BlockLemmas.{length-zeros, zeros-are}
 use Rattle.cfs_recover.specs.declared.blocks.TheConstants.{ZEROS}
 use Rattle.cfs_recover.specs.Cut.{TruncatesAreCut, WritesAreCut}
 
@@ -30,6 +30,9 @@ writes-cut ino offset bytes first at block less here below above = (
 are-zeros : ZEROS ≡ zeros
 unfolding zeros
 are-zeros = refl
+
+pub zeros-long : length ZEROS ≡ 4096
+zeros-long = ap (λ (bytes : List ℕ). length bytes) are-zeros ∙ length-zeros
 
 zero-at : (k : ℕ) → k < 4096 → get_or ZEROS k 0 ≡ 0
 zero-at k less =

@@ -1,6 +1,6 @@
 -- Counts and devices of regions and blocks together, and facts of each of a list.
 use Rattle.std.proofs.Common.{ℕ, zero, suc, ◌<◌, ◌≡◌, Result, Ok, Err, List, [], ◌∷◌, ◌++◌}
-use Rattle.std.proofs.Common.{length, map, get_or, inl, inr, sym, ap, subst, arith}
+use Rattle.std.proofs.Common.{take, length, map, get_or, inl, inr, refl, sym, ap, subst, arith}
 use Rattle.cfs_pmem.specs.AllMoments.{AreDistinct, IsApartFrom}
 use Rattle.cfs_pmem.specs.Images.{Seen, WordStep}
 use Rattle.cfs_pmem.specs.Objects.{all_devices}
@@ -30,6 +30,14 @@ cause-back (n ∷ front) old new (Err e) cause =
       failed = inr behind.failed;
       passed = tt;
     }
+
+-- a call that failed
+pub failed-back : {T E : Type 0} {result : Result T E} (front old new : List ℕ) (e : E) →
+    result ≡ Err e → NoneFell old new → SomeRose old new →
+    HaveCause (front ++ old) (front ++ new) result
+failed-back {T} {E} {result} front old new e is later failed =
+    subst (λ (r : Result T E). HaveCause (front ++ old) (front ++ new) r) (sym is)
+    (cause-back front old new (Err e) (record { later = later; failed = failed; passed = tt }))
 
 fell-front : (old new back : List ℕ) → NoneFell old new → NoneFell (old ++ back) (new ++ back)
 fell-front [] [] back fell = none-fell back
@@ -103,3 +111,7 @@ within-all blocks bytes (piece ∷ pieces) within = (
   within 0 piece (omega arith),
   within-all blocks bytes pieces (λ k d less. within (suc k) d (omega arith)),
 )
+
+pub take-none : {X : Type 0} (xs : List X) → take 0 xs ≡ []
+take-none [] = refl
+take-none (x ∷ xs) = refl

@@ -330,7 +330,7 @@ settled-stands files file entry live rest start second regions mids news blocks 
     sized : IsSized files file entry live rest start
         (with_size entry.node entry.size_after second) mids blocks
     sized = sized-at files file entry live rest start second regions mids blocks is below
-        (omega arith) some same brought
+        (omega (arith, below, within)) some same brought
 
     long : length mids ≡ length regions
     long = ap (λ (seens : List (Seen WordStep)). length seens) is ∙ size-long entry regions

@@ -1,5 +1,6 @@
 use Rattle.std.proofs.Common.{ℕ, ◌∙◌, ◌++◌, List, length, map, ap, sym, subst}
 use Rattle.std.proofs.lemmas.List.{length-map}
+use Rattle.std.proofs.lemmas.Result.{err_from_is_err_and}
 use Rattle.cfs_pmem.proofs.AllMomentLemmas.{all_after}
 use Rattle.cfs_pmem.specs.Objects.{all_devices}
 use Rattle.cfs_slot.specs.Payload.{HaveCause}
@@ -7,8 +8,8 @@ use Rattle.cfs_recover.specs.Brought.{with_blocks}
 use Rattle.cfs_recover.specs.Held.{AllLieWithin}
 use Rattle.cfs_recover.proofs.BlockCalls.{on-ok}
 use Rattle.cfs_recover.proofs.Brought.{bytes-brought}
-use Rattle.cfs_recover.proofs.Lists.{cause-back, cause-front, distinct-back, distinct-blocks}
-use Rattle.cfs_recover.proofs.Lists.{distinct-front, full-all, within-all}
+use Rattle.cfs_recover.proofs.Lists.{cause-front, distinct-back, distinct-blocks}
+use Rattle.cfs_recover.proofs.Lists.{distinct-front, failed-back, full-all, within-all}
 use Rattle.cfs_recover.proofs.home.bring_home.Goals as goal
 
 pub bring_bytes-requires-clause-distinct : goal.bring_bytes-requires-clause-distinct
@@ -33,9 +34,10 @@ returns-in_err-bring_bytes-clause-devices g c =
 
 pub returns-in_err-bring_bytes-clause-cause : goal.returns-in_err-bring_bytes-clause-cause
 returns-in_err-bring_bytes-clause-cause g c =
-    cause-back (map g.R.Region.faults c.args.regions.now)
-    (map g.B.Block.faults c.args.blocks.now) (map g.B.Block.faults c.bring_bytes.new.blocks)
-    c.bring_bytes.result c.bring_bytes.ensures.cause
+    let failed = err_from_is_err_and c.from_residual.result c.from_residual.ensures.1 in
+    failed-back (map g.R.Region.faults c.args.regions.now)
+    (map g.B.Block.faults c.args.blocks.now) (map g.B.Block.faults c.bring_bytes.new.blocks) failed.0
+    failed.1 c.in_err-bring_bytes.ensures.cause.later c.in_err-bring_bytes.ensures.cause.failed
 
 pub returns-clause-moments : goal.returns-clause-moments
 returns-clause-moments g c = λ files file live rest start first takes.

@@ -1,21 +1,29 @@
-use Rattle.std.proofs.Common.{ℕ, ◌∙◌, ◌++◌, List, length, map, ap, sym, subst}
+use Rattle.std.proofs.Common.{ℕ, ◌∙◌, ◌++◌, List, length, map, get_or, ap, sym, subst}
 use Rattle.std.proofs.lemmas.List.{length-map}
+use Rattle.std.proofs.lemmas.Result.{err_from_is_err_and}
 use Rattle.cfs_pmem.proofs.AllMomentLemmas.{all_after}
 use Rattle.cfs_pmem.specs.Objects.{all_devices}
 use Rattle.cfs_recover.specs.declared.blocks.TheConstants.{ZEROS}
 use Rattle.cfs_slot.specs.Payload.{HaveCause}
 use Rattle.cfs_recover.specs.Brought.{with_blocks}
 use Rattle.cfs_recover.specs.Held.{AllLieWithin}
+use Rattle.cfs_recover.specs.Pieces.{LiesWithin}
 use Rattle.cfs_recover.proofs.BlockCalls.{on-ok}
 use Rattle.cfs_recover.proofs.Brought.{through-brought}
-use Rattle.cfs_recover.proofs.Lists.{cause-back, cause-front, distinct-back, distinct-blocks}
-use Rattle.cfs_recover.proofs.Lists.{distinct-front, full-all, within-all}
+use Rattle.cfs_recover.proofs.Cut.{zeros-long}
+use Rattle.cfs_recover.proofs.Lists.{cause-front, distinct-back, distinct-blocks}
+use Rattle.cfs_recover.proofs.Lists.{distinct-front, failed-back, full-all, within-all}
 use Rattle.cfs_recover.proofs.home.zero_home.Goals as goal
 
 pub bring_through-requires-clause-distinct : goal.bring_through-requires-clause-distinct
 bring_through-requires-clause-distinct g c =
     distinct-back (all_devices (map g.R.Region.seen c.args.regions.now))
     (all_devices (map g.B.Block.seen c.args.blocks.now)) c.requires.distinct
+
+pub bring_through-requires-clause-within : goal.bring_through-requires-clause-within
+bring_through-requires-clause-within g c = λ k d less.
+    subst (λ (n : ℕ). LiesWithin (length c.args.blocks.now) n (get_or c.args.pieces.now k d))
+    (sym zeros-long) (c.requires.within k d less)
 
 pub settle-requires-clause-distinct : goal.settle-requires-clause-distinct
 settle-requires-clause-distinct g c =
@@ -34,9 +42,10 @@ returns-in_err-bring_through-clause-devices g c =
 
 pub returns-in_err-bring_through-clause-cause : goal.returns-in_err-bring_through-clause-cause
 returns-in_err-bring_through-clause-cause g c =
-    cause-back (map g.R.Region.faults c.args.regions.now)
-    (map g.B.Block.faults c.args.blocks.now) (map g.B.Block.faults c.bring_through.new.blocks)
-    c.bring_through.result c.bring_through.ensures.cause
+    let failed = err_from_is_err_and c.from_residual.result c.from_residual.ensures.1 in
+    failed-back (map g.R.Region.faults c.args.regions.now)
+    (map g.B.Block.faults c.args.blocks.now) (map g.B.Block.faults c.bring_through.new.blocks) failed.0
+    failed.1 c.in_err-bring_through.ensures.cause.later c.in_err-bring_through.ensures.cause.failed
 
 pub returns-clause-moments : goal.returns-clause-moments
 returns-clause-moments g c = λ files file live rest start first takes.
@@ -52,8 +61,9 @@ returns-clause-moments g c = λ files file live rest start first takes.
     (full-all g.B.Block.seen c.args.blocks.now g.met.B.Block.full)
     (subst (λ (n : ℕ). AllLieWithin n (length ZEROS) c.args.pieces.now)
     (sym (length-map c.args.blocks.now g.B.Block.seen))
-    (within-all (length c.args.blocks.now) (length ZEROS) c.args.pieces.now
-    c.requires.within))
+    (subst (λ (n : ℕ). AllLieWithin (length c.args.blocks.now) n c.args.pieces.now)
+    (sym zeros-long)
+    (within-all (length c.args.blocks.now) 4096 c.args.pieces.now c.requires.within)))
     c.in_ok-bring_through.ensures.ok
     (distinct-blocks (map g.R.Region.seen c.args.regions.now)
     (map g.B.Block.seen c.args.blocks.now) (map g.B.Block.seen c.bring_through.new.blocks)
@@ -73,8 +83,9 @@ returns-clause-stands g c =
     (full-all g.B.Block.seen c.args.blocks.now g.met.B.Block.full)
     (subst (λ (n : ℕ). AllLieWithin n (length ZEROS) c.args.pieces.now)
     (sym (length-map c.args.blocks.now g.B.Block.seen))
-    (within-all (length c.args.blocks.now) (length ZEROS) c.args.pieces.now
-    c.requires.within))
+    (subst (λ (n : ℕ). AllLieWithin (length c.args.blocks.now) n c.args.pieces.now)
+    (sym zeros-long)
+    (within-all (length c.args.blocks.now) 4096 c.args.pieces.now c.requires.within)))
     c.in_ok-bring_through.ensures.ok
     (distinct-blocks (map g.R.Region.seen c.args.regions.now)
     (map g.B.Block.seen c.args.blocks.now) (map g.B.Block.seen c.bring_through.new.blocks)

@@ -1,11 +1,12 @@
-use Rattle.std.proofs.Common.{◌+◌, ◌∙◌, map, take, get_or, subst, sym, arith}
-use Rattle.std.proofs.lemmas.List.{length-map}
+use Rattle.std.proofs.Common.{ℕ, ◌+◌, ◌∙◌, List, map, take, get_or, refl, sym, ap, subst, arith}
+use Rattle.std.proofs.lemmas.List.{length-map, take_all}
 use Rattle.cfs_pmem.proofs.AllMomentLemmas.{all_after}
 use Rattle.cfs_home.specs.Disks.{Disk}
 use Rattle.cfs_recover.specs.Begins.{Stands}
-use Rattle.cfs_recover.specs.Swept.{all_empty}
+use Rattle.cfs_recover.specs.Swept.{all_empty, with_no_sizes}
 use Rattle.cfs_recover.specs.Words.{HaveFirstWords}
 use Rattle.cfs_recover.proofs.BlockCalls.{same-cause}
+use Rattle.cfs_recover.proofs.Lists.{take-none}
 use Rattle.cfs_recover.proofs.Settled.{first-words}
 use Rattle.cfs_recover.proofs.Swept.{empty-one-more, none-moments, none-stands, sizes-one-more}
 use Rattle.cfs_recover.proofs.Swept.{stands-moments}
@@ -23,9 +24,17 @@ set_size-requires-clause-within g c =
 
 pub loop-node-init : goal.loop-node-init
 loop-node-init g c = record {
+  so_far = sym (ap (λ (xs : List ℕ). with_no_sizes xs (map g.R.Region.seen c.args.regions.now))
+      (take-none c.args.nodes.now));
+  words = c.requires.words;
   moments = λ files start first blocks stands none.
       stands-moments files start first (map g.R.Region.seen c.args.regions.now) blocks _ stands;
-  stands = λ files start first blocks stands none. stands;
+  stands = λ files start first blocks stands none.
+      subst (λ (xs : List ℕ). Stands files start (all_empty xs first)
+      (map g.R.Region.seen c.args.regions.now) blocks)
+      (sym (take-none c.args.nodes.now)) stands;
+  devices = refl;
+  counts = refl;
 }
 
 pub returns-in_err-set_size-clause-moments : goal.returns-in_err-set_size-clause-moments
@@ -90,6 +99,14 @@ loop-node-preserved g c = record {
   devices = c.set_size.ensures.devices ∙ c.loop-node.invariant.devices;
   counts = c.in_ok-set_size.ensures.cause.passed ∙ c.loop-node.invariant.counts;
 }
+
+pub returns-clause-stands : goal.returns-clause-stands
+returns-clause-stands g c = λ files start first blocks stands none.
+    subst (λ (xs : List ℕ). Stands files start (all_empty xs first)
+    (map g.R.Region.seen c.loop-node.regions) blocks)
+    (take_all c.loop-node.node-index c.args.nodes.now
+    (omega (arith, c.loop-node-test.false)))
+    (c.loop-node.invariant.stands files start first blocks stands none)
 
 pub returns-clause-cause : goal.returns-clause-cause
 returns-clause-cause g c = same-cause _ _ c.loop-node.invariant.counts

@@ -1,11 +1,12 @@
-use Rattle.std.proofs.Common.{◌+◌, ◌∙◌, map, take, get_or, subst, sym, arith}
-use Rattle.std.proofs.lemmas.List.{length-map}
+use Rattle.std.proofs.Common.{ℕ, ◌+◌, ◌∙◌, List, map, take, get_or, refl, sym, ap, subst, arith}
+use Rattle.std.proofs.lemmas.List.{length-map, take_all}
 use Rattle.cfs_pmem.proofs.AllMomentLemmas.{all_after}
 use Rattle.cfs_home.specs.Disks.{Disk}
 use Rattle.cfs_recover.specs.Begins.{Stands}
-use Rattle.cfs_recover.specs.Swept.{all_shut}
+use Rattle.cfs_recover.specs.Swept.{all_shut, with_shut}
 use Rattle.cfs_recover.specs.Words.{HaveFirstWords}
 use Rattle.cfs_recover.proofs.BlockCalls.{same-cause}
+use Rattle.cfs_recover.proofs.Lists.{take-none}
 use Rattle.cfs_recover.proofs.Settled.{first-words}
 use Rattle.cfs_recover.proofs.Swept.{all-one-more, dead-moments, dead-stands, dead-still}
 use Rattle.cfs_recover.proofs.Swept.{shut-one-more, stands-moments}
@@ -22,9 +23,17 @@ close_gate-requires-clause-within g c =
 
 pub loop-at-init : goal.loop-at-init
 loop-at-init g c = record {
+  so_far = sym (ap (λ (xs : List ℕ). with_shut xs (map g.R.Region.seen c.args.regions.now))
+      (take-none c.args.places.now));
+  words = c.requires.words;
   moments = λ files start first blocks stands dead.
       stands-moments files start first (map g.R.Region.seen c.args.regions.now) blocks _ stands;
-  stands = λ files start first blocks stands dead. stands;
+  stands = λ files start first blocks stands dead.
+      subst (λ (xs : List ℕ). Stands files start (all_shut xs first)
+      (map g.R.Region.seen c.args.regions.now) blocks)
+      (sym (take-none c.args.places.now)) stands;
+  devices = refl;
+  counts = refl;
 }
 
 pub returns-in_err-close_gate-clause-moments : goal.returns-in_err-close_gate-clause-moments
@@ -77,6 +86,14 @@ loop-at-preserved g c = record {
   devices = c.close_gate.ensures.devices ∙ c.loop-at.invariant.devices;
   counts = c.in_ok-close_gate.ensures.cause.passed ∙ c.loop-at.invariant.counts;
 }
+
+pub returns-clause-stands : goal.returns-clause-stands
+returns-clause-stands g c = λ files start first blocks stands dead.
+    subst (λ (xs : List ℕ). Stands files start (all_shut xs first)
+    (map g.R.Region.seen c.loop-at.regions) blocks)
+    (take_all c.loop-at.at-index c.args.places.now
+    (omega (arith, c.loop-at-test.false)))
+    (c.loop-at.invariant.stands files start first blocks stands dead)
 
 pub returns-clause-cause : goal.returns-clause-cause
 returns-clause-cause g c = same-cause _ _ c.loop-at.invariant.counts

@@ -1,11 +1,11 @@
-use Rattle.std.proofs.Common.{◌∙◌, map, take, get_or, subst, arith}
-use Rattle.std.proofs.lemmas.List.{length-map}
+use Rattle.std.proofs.Common.{ℕ, ◌∙◌, List, map, take, get_or, refl, sym, ap, subst, arith}
+use Rattle.std.proofs.lemmas.List.{length-map, take_all}
 use Rattle.cfs_pmem.proofs.AllMomentLemmas.{all_after}
 use Rattle.cfs_home.specs.Disks.{Disk}
 use Rattle.cfs_recover.specs.Begins.{Stands}
-use Rattle.cfs_recover.specs.Untagged.{all_untagged}
+use Rattle.cfs_recover.specs.Untagged.{all_untagged, with_untagged}
 use Rattle.cfs_recover.proofs.BlockCalls.{same-cause}
-use Rattle.cfs_recover.proofs.Lists.{full-all}
+use Rattle.cfs_recover.proofs.Lists.{full-all, take-none}
 use Rattle.cfs_recover.proofs.Swept.{stands-moments}
 use Rattle.cfs_recover.proofs.Untagged.{none-still, untag-moments, untag-one-more, untag-stands}
 use Rattle.cfs_recover.proofs.Untagged.{untagged-one-more}
@@ -13,9 +13,17 @@ use Rattle.cfs_recover.proofs.tags.untag.Goals as goal
 
 pub loop-at-init : goal.loop-at-init
 loop-at-init g c = record {
+  so_far = sym (ap (λ (xs : List ℕ). with_untagged xs (map g.B.Block.seen c.args.blocks.now))
+      (take-none c.args.places.now));
   moments = λ files start first regions stands none.
       stands-moments files start first regions (map g.B.Block.seen c.args.blocks.now) _ stands;
-  stands = λ files start first regions stands none. stands;
+  stands = λ files start first regions stands none.
+      subst (λ (xs : List ℕ). Stands files start (all_untagged xs first) regions
+      (map g.B.Block.seen c.args.blocks.now))
+      (sym (take-none c.args.places.now)) stands;
+  devices = refl;
+  numbers = refl;
+  counts = refl;
 }
 
 pub returns-in_err-untag_block-clause-moments : goal.returns-in_err-untag_block-clause-moments
@@ -67,6 +75,14 @@ loop-at-preserved g c = record {
   numbers = c.untag_block.ensures.numbers ∙ c.loop-at.invariant.numbers;
   counts = c.in_ok-untag_block.ensures.cause.passed ∙ c.loop-at.invariant.counts;
 }
+
+pub returns-clause-stands : goal.returns-clause-stands
+returns-clause-stands g c = λ files start first regions stands none.
+    subst (λ (xs : List ℕ). Stands files start (all_untagged xs first) regions
+    (map g.B.Block.seen c.loop-at.blocks))
+    (take_all c.loop-at.at-index c.args.places.now
+    (omega (arith, c.loop-at-test.false)))
+    (c.loop-at.invariant.stands files start first regions stands none)
 
 pub returns-clause-cause : goal.returns-clause-cause
 returns-clause-cause g c = same-cause _ _ c.loop-at.invariant.counts
