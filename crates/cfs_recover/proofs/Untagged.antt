@@ -1,7 +1,7 @@
 -- Blocks that are tagged for no file are untagged.
 use Rattle.std.proofs.Common.{ℕ, ◌+◌, ◌<◌, ◌≡◌, ◌∙◌, Bool, Result, Ok, Err, OnOk, OnErr, ◌⊎◌, List}
-use Rattle.std.proofs.Common.{[], ◌∷◌, ◌++◌, take, length, map, get_or, set, inl, inr, refl, sym, ap}
-use Rattle.std.proofs.Common.{subst, arith}
+use Rattle.std.proofs.Common.{[], ◌∷◌, ◌++◌, take, length, map, get_or, set, inl, inr, refl, sym}
+use Rattle.std.proofs.Common.{ap, subst, arith}
 use Rattle.std.proofs.lemmas.Bool.{cases_lt}
 use Rattle.std.proofs.lemmas.List.{get_or-set_other, get_or-set_same, set-get_or, set-set, set_past}
 use Rattle.std.proofs.lemmas.List.{take_more}
@@ -10,8 +10,8 @@ use Rattle.cfs_pmem.specs.declared.trace.Asked.{Asked}
 use Rattle.cfs_pmem.specs.Images.{Seen, WordStep, devices_of}
 use Rattle.cfs_pmem.specs.Objects.{IsEachImage, IsImageBut, all_devices, seen_at}
 use Rattle.cfs_pmem.proofs.ObjectLemmas.{each_but, map-see-set, seen_at-map}
-use Rattle.cfs_block.specs.BlockImages.{BlockStep, Content, IsBlockImage, TagFails, content_of, kept}
-use Rattle.cfs_block.specs.BlockImages.{retagged, unflushed, with_tag}
+use Rattle.cfs_block.specs.BlockImages.{BlockStep, Content, IsBlockImage, TagFails, content_of}
+use Rattle.cfs_block.specs.BlockImages.{kept, retagged, unflushed, with_tag}
 use Rattle.cfs_block.proofs.BlockLemmas.{all_kept, now_is_image}
 use Rattle.cfs_medium.specs.Depicts.{content_at}
 use Rattle.cfs_home.specs.Calls.{HaveBlocksOf, MountMoments, SetsTagAt}
@@ -31,7 +31,8 @@ pub untag-is : {X : Type 0} (see : X → Seen BlockStep) (xs : List X) (at : ℕ
 untag-is see xs at d y less is =
     map-see-set see xs at y
     ∙ ap (λ (seen : Seen BlockStep). set (map see xs) at seen)
-    (is ∙ ap (λ (seen : Seen BlockStep). kept (retagged 0 seen)) (sym (seen_at-map see xs at d less)))
+    (is ∙ ap (λ (seen : Seen BlockStep). kept (retagged 0 seen))
+    (sym (seen_at-map see xs at d less)))
 
 pub tag-devices : {T E : Type 0} (keeps : Bool) (result : Result T E) (old new : Seen BlockStep) →
     OnOk result (new ≡ kept (retagged 0 old)) →

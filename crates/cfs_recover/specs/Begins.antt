@@ -12,8 +12,8 @@ use Rattle.cfs_home.specs.Disks.{AllStay, AreFiles, Disk, File, IsLowest}
 abbrev pub both : List (Seen WordStep) → List (Seen BlockStep) → Devices
 both regions blocks = record { regions = regions; blocks = blocks }
 
--- A mount finds the files of `start` on this disk, and a crash leaves no other disk of these regions
--- and blocks.
+-- A mount finds the files of `start` on this disk, and a crash leaves no other disk of these
+-- regions and blocks.
 pub record Stands (files : List File) (start now : Disk) (regions : List (Seen WordStep))
     (blocks : List (Seen BlockStep)) : Type 0 where
   pub are : AreFiles files

@@ -8,7 +8,8 @@ use Rattle.cfs_recover.proofs.blocks.write_through.Given as goal
 abbrev pub invariant-loop-piece : goal.invariant-loop-piece
 invariant-loop-piece g l = record {
   so_far : map g.B.Block.seen l.blocks
-      ≡ with_writes_through (take l.piece-index l.pieces) l.bytes (map g.B.Block.seen l.initial.blocks);
+      ≡ with_writes_through (take l.piece-index l.pieces) l.bytes
+      (map g.B.Block.seen l.initial.blocks);
   beside : (ino : ℕ) (request : Request) (first : List Content) →
       ArePieces ino request first l.pieces →
       LeavesBeside ino request first (g.P.Power.asked l.initial.power)

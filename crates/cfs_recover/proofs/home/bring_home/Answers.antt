@@ -36,8 +36,9 @@ pub returns-in_err-bring_bytes-clause-cause : goal.returns-in_err-bring_bytes-cl
 returns-in_err-bring_bytes-clause-cause g c =
     let failed = err_from_is_err_and c.from_residual.result c.from_residual.ensures.1 in
     failed-back (map g.R.Region.faults c.args.regions.now)
-    (map g.B.Block.faults c.args.blocks.now) (map g.B.Block.faults c.bring_bytes.new.blocks) failed.0
-    failed.1 c.in_err-bring_bytes.ensures.cause.later c.in_err-bring_bytes.ensures.cause.failed
+    (map g.B.Block.faults c.args.blocks.now) (map g.B.Block.faults c.bring_bytes.new.blocks)
+    failed.0 failed.1 c.in_err-bring_bytes.ensures.cause.later
+    c.in_err-bring_bytes.ensures.cause.failed
 
 pub returns-clause-moments : goal.returns-clause-moments
 returns-clause-moments g c = λ files file live rest start first takes.

@@ -44,8 +44,9 @@ pub returns-in_err-bring_through-clause-cause : goal.returns-in_err-bring_throug
 returns-in_err-bring_through-clause-cause g c =
     let failed = err_from_is_err_and c.from_residual.result c.from_residual.ensures.1 in
     failed-back (map g.R.Region.faults c.args.regions.now)
-    (map g.B.Block.faults c.args.blocks.now) (map g.B.Block.faults c.bring_through.new.blocks) failed.0
-    failed.1 c.in_err-bring_through.ensures.cause.later c.in_err-bring_through.ensures.cause.failed
+    (map g.B.Block.faults c.args.blocks.now) (map g.B.Block.faults c.bring_through.new.blocks)
+    failed.0 failed.1 c.in_err-bring_through.ensures.cause.later
+    c.in_err-bring_through.ensures.cause.failed
 
 pub returns-clause-moments : goal.returns-clause-moments
 returns-clause-moments g c = λ files file live rest start first takes.
