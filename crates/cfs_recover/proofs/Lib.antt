@@ -10,4 +10,4 @@ pub mod Brought
 pub mod Settled
 pub mod Swept
 pub mod Untagged
-pub mod Cut
+pub mod Ranges

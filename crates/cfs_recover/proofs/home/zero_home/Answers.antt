@@ -10,7 +10,7 @@ use Rattle.cfs_recover.specs.Held.{AllLieWithin}
 use Rattle.cfs_recover.specs.Pieces.{LiesWithin}
 use Rattle.cfs_recover.proofs.BlockCalls.{on-ok}
 use Rattle.cfs_recover.proofs.Brought.{through-brought}
-use Rattle.cfs_recover.proofs.Cut.{zeros-long}
+use Rattle.cfs_recover.proofs.Ranges.{zeros-long}
 use Rattle.cfs_recover.proofs.Lists.{cause-front, distinct-back, distinct-blocks}
 use Rattle.cfs_recover.proofs.Lists.{distinct-front, failed-back, full-all, within-all}
 use Rattle.cfs_recover.proofs.home.zero_home.Goals as goal

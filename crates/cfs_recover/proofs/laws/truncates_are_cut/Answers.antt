@@ -1,4 +1,4 @@
-use Rattle.cfs_recover.proofs.Cut.{truncates-cut}
+use Rattle.cfs_recover.proofs.Ranges.{truncates-cut}
 use Rattle.cfs_recover.proofs.laws.truncates_are_cut.Goals as goal
 
 pub returns : goal.returns

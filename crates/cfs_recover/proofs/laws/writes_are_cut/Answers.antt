@@ -1,4 +1,4 @@
-use Rattle.cfs_recover.proofs.Cut.{writes-cut}
+use Rattle.cfs_recover.proofs.Ranges.{writes-cut}
 use Rattle.cfs_recover.proofs.laws.writes_are_cut.Goals as goal
 
 pub returns : goal.returns

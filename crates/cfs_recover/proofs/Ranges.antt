@@ -15,16 +15,18 @@ writes-cut ino offset bytes first at block less here below above = (
     fits = omega (arith, below, above);
     touched = λ k up top. (omega (arith, up, below), omega (arith, up, top, below, above));
   },
-  record {
-    block = block;
-    within = less;
-    tag = here;
-    own = λ k inside. ap (λ (j : ℕ). get_or bytes j 0) (omega (arith, inside, below, above));
-  },
-  λ p same touched.
-      let low = touched.0 in
-      let high = touched.1 in
-      (refl, omega (arith, same, low, below), omega (arith, same, high, low, below, above)),
+  (
+    record {
+      block = block;
+      within = less;
+      tag = here;
+      own = λ k inside. ap (λ (j : ℕ). get_or bytes j 0) (omega (arith, inside, below, above));
+    },
+    λ p same touched.
+        let low = touched.0 in
+        let high = touched.1 in
+        (refl, omega (arith, same, low, below), omega (arith, same, high, low, below, above)),
+  ),
 )
 
 are-zeros : ZEROS ≡ zeros
@@ -48,12 +50,14 @@ truncates-cut ino n first at block less here below = (
     fits = omega (arith, below);
     touched = λ k up top. omega (arith, up, below);
   },
-  record {
-    block = block;
-    within = less;
-    tag = here;
-    own = λ k inside. zero-at (0 + k) (omega (arith, inside, below));
-  },
-  λ p same touched.
-      (refl, omega (arith, same, touched, below), omega (arith, same, touched, below)),
+  (
+    record {
+      block = block;
+      within = less;
+      tag = here;
+      own = λ k inside. zero-at (0 + k) (omega (arith, inside, below));
+    },
+    λ p same touched.
+        (refl, omega (arith, same, touched, below), omega (arith, same, touched, below)),
+  ),
 )
