@@ -54,7 +54,8 @@ chosen-other n k size other apart =
     let test : (n == k) ≡ false = grind (arith, nat_tests) in
     ap (λ (b : Bool). if b then size else other) test
 
-pub with-size-sets : (node size : ℕ) (disk : Disk) → SetsSize node size disk (with_size node size disk)
+pub with-size-sets : (node size : ℕ) (disk : Disk) →
+    SetsSize node size disk (with_size node size disk)
 with-size-sets node size disk = record {
   own = chosen-same node node size (disk.sizes node) refl;
   others = λ other apart. chosen-other other node size (disk.sizes other) apart;
