@@ -8,7 +8,7 @@ use Rattle.cfs_home.specs.Calls.{MountMoments}
 use Rattle.cfs_home.specs.Disks.{AllStay, BlocksBeside, Disk, File, WritesBlocks}
 use Rattle.cfs_home.proofs.Calls.{writes-stop}
 use Rattle.cfs_home.proofs.Disks.{goes-on, writes-all}
-use Rattle.cfs_recover.specs.Begins.{Begins}
+use Rattle.cfs_recover.specs.Begins.{Begins, both}
 use Rattle.cfs_recover.specs.Pieces.{LeavesBeside}
 
 beside-same : (ino : ℕ) (request : Request) (first : List Content) →
@@ -24,16 +24,15 @@ pub bytes-stop : (files : List File) (file : File) (at : ℕ) (entry : ℕ × Re
     (olds news : List (Seen BlockStep)) (asked_old asked_new : List Asked) →
     Begins files file at entry rest start first regions olds →
     LeavesBeside file.ino entry.1 first.blocks asked_old olds asked_new news →
-    MountMoments files start asked_old (record { regions = regions; blocks = olds })
-    asked_new (record { regions = regions; blocks = news })
+    MountMoments files start asked_old (both regions olds) asked_new (both regions news)
 bytes-stop files file at entry rest start first regions olds news _ _ begins leaves =
     writes-stop files file entry.1 start first regions olds news _ _ keeps
-    begins.words begins.distinct
+    begins.stands.words begins.stands.distinct
     (leaves (λ contents each. subst (BlocksBeside file.ino entry.1 first.blocks)
-    (sym (begins.blocks_are contents each)) (beside-same file.ino entry.1 first.blocks)))
+    (sym (begins.stands.blocks_are contents each)) (beside-same file.ino entry.1 first.blocks)))
   where
     keeps : (second : Disk) → WritesBlocks file entry.1 first second → AllStay files start second
     keeps second step =
-        let on = goes-on files start first second begins.stay in
-        on.1 (writes-all files file at entry rest first second begins.are begins.among on.0
-        begins.low step)
+        let on = goes-on files start first second begins.stands.stay in
+        on.1 (writes-all files file at entry rest first second begins.stands.are begins.among
+        on.0 begins.low step)

@@ -26,7 +26,7 @@ use Rattle.cfs_home.specs.Calls.{IsPiece}
 use Rattle.cfs_home.specs.Disks.{BlocksBeside}
 use Rattle.cfs_home.proofs.Calls.{but-has, but-other, but-within, pieces-beside}
 use Rattle.cfs_recover.specs.Pieces.{LeavesBeside, LiesWithin, bytes_of, with_flush, with_flushes}
-use Rattle.cfs_recover.specs.Pieces.{with_write, with_writes}
+use Rattle.cfs_recover.specs.Pieces.{with_write, with_writes, with_writes_through}
 use Rattle.cfs_recover.specs.declared.piece.Piece.{Piece}
 
 -- ---- lists with one block changed
@@ -38,7 +38,7 @@ map-same_at f xs at d y less same =
     ∙ (ap (set (map f xs) at) (same ∙ sym (get_or-map f xs at d (f d) less))
     ∙ set-get_or (map f xs) at (f d))
 
-pub devices-same_at : {X : Type 0} (see : X → Seen BlockStep) (xs : List X) (at : ℕ) (d y : X) →
+pub devices-same_at : {X Form : Type 0} (see : X → Seen Form) (xs : List X) (at : ℕ) (d y : X) →
     at < length xs → devices_of (see y) ≡ devices_of (see (get_or xs at d)) →
     all_devices (map see (set xs at y)) ≡ all_devices (map see xs)
 devices-same_at see xs at d y less same =
@@ -46,7 +46,7 @@ devices-same_at see xs at d y less same =
     ∙ map-same_at devices_of (map see xs) at (see d) (see y) (omega (arith, length-map xs see))
     (same ∙ ap devices_of (sym (get_or-map see xs at d (see d) less)))
 
-none-fell : (counts : List ℕ) → NoneFell counts counts
+pub none-fell : (counts : List ℕ) → NoneFell counts counts
 none-fell [] = tt
 none-fell (n ∷ counts) = (omega arith, none-fell counts)
 
@@ -275,6 +275,16 @@ pub flushes-more : (pieces : List Piece) (piece : Piece) (blocks : List (Seen Bl
 flushes-more [] piece blocks = refl
 flushes-more (first ∷ pieces) piece blocks = flushes-more pieces piece (with_flush first.at blocks)
 
+pub through-more : (pieces : List Piece) (piece : Piece) (bytes : List ℕ)
+    (blocks : List (Seen BlockStep)) →
+    with_writes_through (pieces ++ piece ∷ []) bytes blocks
+    ≡ with_flush piece.at (with_write piece.at piece.from (bytes_of piece bytes)
+    (with_writes_through pieces bytes blocks))
+through-more [] piece bytes blocks = refl
+through-more (first ∷ pieces) piece bytes blocks =
+    through-more pieces piece bytes
+    (with_flush first.at (with_write first.at first.from (bytes_of first bytes) blocks))
+
 -- one piece more
 pub written-more : (pieces : List Piece) (i : ℕ) (d : Piece) (bytes : List ℕ)
     (begun_ mid now : List (Seen BlockStep)) → i < length pieces →
@@ -299,6 +309,22 @@ flushed-more pieces i d begun_ mid now less before is =
     ∙ (ap (with_flush (get_or pieces i d).at) before
     ∙ (sym (flushes-more (take i pieces) (get_or pieces i d) begun_)
     ∙ sym (ap (λ (ps : List Piece). with_flushes ps begun_) (take_more pieces i d less))))
+
+pub through-one-more : (pieces : List Piece) (i : ℕ) (d : Piece) (bytes : List ℕ)
+    (begun_ mid wrote_ now : List (Seen BlockStep)) → i < length pieces →
+    mid ≡ with_writes_through (take i pieces) bytes begun_ →
+    wrote_ ≡ with_write (get_or pieces i d).at (get_or pieces i d).from
+    (bytes_of (get_or pieces i d) bytes) mid →
+    now ≡ with_flush (get_or pieces i d).at wrote_ →
+    now ≡ with_writes_through (take (i + 1) pieces) bytes begun_
+through-one-more pieces i d bytes begun_ mid wrote_ now less before write flush =
+    flush
+    ∙ (ap (with_flush (get_or pieces i d).at)
+    (write ∙ ap (with_write (get_or pieces i d).at (get_or pieces i d).from
+    (bytes_of (get_or pieces i d) bytes)) before)
+    ∙ (sym (through-more (take i pieces) (get_or pieces i d) bytes begun_)
+    ∙ sym (ap (λ (ps : List Piece). with_writes_through ps bytes begun_)
+    (take_more pieces i d less))))
 
 pub same-cause : {E : Type 0} (counts now : List ℕ) → now ≡ counts →
     HaveCause {T = Unit {0}} {E = E} counts now (Ok tt)

@@ -21,7 +21,7 @@ use Rattle.cfs_recover.specs.Pieces.{with_writes}
 use Rattle.cfs_recover.specs.Held.{AllBring, AllLieWithin, AreFull, Brings, IsInPiece, PiecesHold}
 use Rattle.cfs_recover.specs.Held.{SomeHas}
 
-abbrev content_in : List (Seen BlockStep) → ℕ → Content
+abbrev pub content_in : List (Seen BlockStep) → ℕ → Content
 content_in blocks at = content_of (seen_at blocks at)
 
 byte_in : List (Seen BlockStep) → ℕ → ℕ → ℕ
@@ -30,13 +30,13 @@ byte_in blocks at k = get_or (content_in blocks at).bytes k 0
 -- ---- one write
 
 -- the content of a block after another one changed, and after it changed itself
-set-there : (blocks : List (Seen BlockStep)) (a : ℕ) (new : Seen BlockStep) (at : ℕ) →
+pub set-there : (blocks : List (Seen BlockStep)) (a : ℕ) (new : Seen BlockStep) (at : ℕ) →
     (at ≡ a → ⊥) → content_in (set blocks a new) at ≡ content_in blocks at
 set-there blocks a new at apart =
     ap content_of
     (get_or-set_other blocks a at new (record { device = 0; also = []; history = [] }) apart)
 
-set-here : (blocks : List (Seen BlockStep)) (a : ℕ) (new : Seen BlockStep) (at : ℕ) → at ≡ a →
+pub set-here : (blocks : List (Seen BlockStep)) (a : ℕ) (new : Seen BlockStep) (at : ℕ) → at ≡ a →
     a < length blocks → content_in (set blocks a new) at ≡ content_of new
 set-here blocks a new at same less =
     ap (content_in (set blocks a new)) same
@@ -168,7 +168,7 @@ in-or-not piece at k = elim (same_or_not piece.at at) [
   | inr apart ↦ inr (λ h. apart h.0)
 ]
 
-tags-stay : (pieces : List Piece) (bytes : List ℕ) (blocks : List (Seen BlockStep)) (at : ℕ) →
+pub tags-stay : (pieces : List Piece) (bytes : List ℕ) (blocks : List (Seen BlockStep)) (at : ℕ) →
     AreFull blocks → AllLieWithin (length blocks) (length bytes) pieces →
     (content_in (with_writes pieces bytes blocks) at).tag ≡ (content_in blocks at).tag
 tags-stay [] bytes blocks at full within = refl
@@ -179,7 +179,7 @@ tags-stay (piece ∷ pieces) bytes blocks at full within =
     ∙ write-tag blocks piece.at piece.from (bytes_of piece bytes) at
     (fits-in blocks piece bytes full within.0)
 
-flushes-stay : (pieces : List Piece) (blocks : List (Seen BlockStep)) (at : ℕ) →
+pub flushes-stay : (pieces : List Piece) (blocks : List (Seen BlockStep)) (at : ℕ) →
     content_in (with_flushes pieces blocks) at ≡ content_in blocks at
 flushes-stay [] blocks at = refl
 flushes-stay (piece ∷ pieces) blocks at =
@@ -288,7 +288,7 @@ pieces-own ino request first (piece ∷ pieces) bytes blocks at p full within br
 
 -- ---- the contents
 
-contents-at : (blocks : List (Seen BlockStep)) (at : ℕ) →
+pub contents-at : (blocks : List (Seen BlockStep)) (at : ℕ) →
     content_at (map content_of blocks) at ≡ content_in blocks at
 contents-at blocks at =
     get_or-map content_of blocks at (record { device = 0; also = []; history = [] })

@@ -1,5 +1,13 @@
 pub mod BlockCalls
+pub mod WordCalls
+pub mod Lists
 pub mod Held
 pub mod Sure
+pub mod Only
+pub mod Through
 pub mod Begins
 pub mod Brought
+pub mod Settled
+pub mod Swept
+pub mod Untagged
+pub mod Ranges

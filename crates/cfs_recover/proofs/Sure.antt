@@ -11,6 +11,7 @@ use Rattle.cfs_block.proofs.BlockLemmas.{sure_kept}
 use Rattle.cfs_recover.specs.declared.piece.Piece.{Piece}
 use Rattle.cfs_recover.specs.Held.{AllLieWithin}
 use Rattle.cfs_recover.specs.Pieces.{bytes_of, with_flush, with_flushes, with_write, with_writes}
+use Rattle.cfs_recover.specs.Pieces.{with_writes_through}
 use Rattle.cfs_recover.specs.Sure.{AreSure, PiecesAreSure, SureBlocksAreOf}
 
 -- one of the pieces is for the block
@@ -110,6 +111,49 @@ pieces-sure pieces bytes blocks sure within =
     (subst (λ (n : ℕ). AllBelow n pieces) (sym (writes-long pieces bytes blocks))
     (below-of (length blocks) (length bytes) pieces within))
     (write-sure pieces pieces bytes blocks (λ k some. some) (λ k less. inl (sure k less)))
+
+-- each block that is written is flushed at once
+pub through-sure : (pieces : List Piece) (bytes : List ℕ) (blocks : List (Seen BlockStep))
+    (n : ℕ) → AllLieWithin (length blocks) n pieces → AreSure blocks →
+    AreSure (with_writes_through pieces bytes blocks)
+through-sure [] bytes blocks n within sure = sure
+through-sure (piece ∷ pieces) bytes blocks n within sure =
+    through-sure pieces bytes (with_flush piece.at mid) n
+    (subst (λ (m : ℕ). AllLieWithin m n pieces) (sym long) within.1) one
+  where
+    mid : List (Seen BlockStep)
+    mid = with_write piece.at piece.from (bytes_of piece bytes) blocks
+
+    mid_long : length (with_write piece.at piece.from (bytes_of piece bytes) blocks)
+        ≡ length blocks
+    mid_long = length-set blocks piece.at
+        (wrote piece.from (bytes_of piece bytes) (seen_at blocks piece.at))
+
+    long : length (with_flush piece.at
+        (with_write piece.at piece.from (bytes_of piece bytes) blocks)) ≡ length blocks
+    long = length-set (with_write piece.at piece.from (bytes_of piece bytes) blocks) piece.at
+        (kept (seen_at (with_write piece.at piece.from (bytes_of piece bytes) blocks) piece.at))
+        ∙ mid_long
+
+    one : AreSure (with_flush piece.at
+        (with_write piece.at piece.from (bytes_of piece bytes) blocks))
+    one k less = elim (same_or_not k piece.at) [
+      | inl same ↦ sure_kept
+          (seen_at (with_write piece.at piece.from (bytes_of piece bytes) blocks) piece.at)
+          (ap (seen_at (with_flush piece.at
+          (with_write piece.at piece.from (bytes_of piece bytes) blocks))) same
+          ∙ get_or-set_same (with_write piece.at piece.from (bytes_of piece bytes) blocks) piece.at
+          (kept (seen_at (with_write piece.at piece.from (bytes_of piece bytes) blocks) piece.at))
+          (record { device = 0; also = []; history = [] })
+          (let below = within.0.at in omega (arith, below, mid_long)))
+      | inr apart ↦ subst (λ (seen : Seen BlockStep). IsSureBlock seen)
+          (sym (stays-at (with_write piece.at piece.from (bytes_of piece bytes) blocks) piece.at k
+          (kept (seen_at (with_write piece.at piece.from (bytes_of piece bytes) blocks) piece.at))
+          apart
+          ∙ stays-at blocks piece.at k
+          (wrote piece.from (bytes_of piece bytes) (seen_at blocks piece.at)) apart))
+          (sure k (omega (arith, less, long)))
+    ]
 
 -- the only images
 sure-contents : (blocks : List (Seen BlockStep)) (contents : List Content) → AreSure blocks →

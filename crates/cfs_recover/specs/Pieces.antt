@@ -45,6 +45,14 @@ abbrev pub with_flushes : List Piece → List (Seen BlockStep) → List (Seen Bl
 with_flushes [] blocks = blocks
 with_flushes (piece ∷ pieces) blocks = with_flushes pieces (with_flush piece.at blocks)
 
+-- each piece is written and its block flushed, before the next one is written
+abbrev pub with_writes_through : List Piece → List ℕ → List (Seen BlockStep) →
+    List (Seen BlockStep)
+with_writes_through [] bytes blocks = blocks
+with_writes_through (piece ∷ pieces) bytes blocks =
+    with_writes_through pieces bytes
+    (with_flush piece.at (with_write piece.at piece.from (bytes_of piece bytes) blocks))
+
 -- ---- what a crash leaves
 
 -- Where a crash leaves the blocks as they may be while the request is written, it does so at each

@@ -8,10 +8,14 @@ ghost use Rattle.cfs_slot.specs.Payload.{HaveCause};
 ghost use Rattle.cfs_home.specs.Calls.{IsPiece};
 ghost use Rattle.cfs_recover.specs.Pieces.{ArePieces, LeavesBeside, LiesWithin, with_flush};
 ghost use Rattle.cfs_recover.specs.Pieces.{with_flushes, with_write, with_writes};
+ghost use Rattle.cfs_recover.specs.Pieces.{with_writes_through};
 
 use crate::piece::Piece;
 use cfs_block::Block;
 use cfs_pmem::{DeviceFault, Power};
+
+/// What a truncate brings to a block.
+pub static ZEROS: [u8; 4096] = [0; 4096];
 
 /// Writes bytes into a block, from `from` on.
 pub fn write_block<B: Block, P: Power>(
@@ -104,6 +108,35 @@ pub fn flush_pieces<B: Block, P: Power>(
 {
     for piece in pieces {
         flush_block(blocks, power, piece.at)?;
+    }
+    Ok(())
+}
+
+/// Writes the pieces of a request in their order, and flushes the block of each one before the next
+/// is written.
+pub fn write_through<B: Block, P: Power>(
+    blocks: &mut [B],
+    power: &mut P,
+    pieces: &[Piece],
+    bytes: &[u8],
+) -> Result<(), DeviceFault>
+    requires within { (k : ℕ) (d : Piece) → k < length pieces.now →
+        LiesWithin (length blocks.old) (length bytes.now) (get_or pieces.now k d) }
+    requires distinct { AreDistinct (all_devices (map B.seen blocks.old)) }
+    ensures ok { OnOk result (map B.seen blocks.new ≡
+        with_writes_through pieces.now bytes.now (map B.seen blocks.old)) }
+    ensures beside { (ino : ℕ) (request : Request) (first : List Content) →
+        ArePieces ino request first pieces.now →
+        LeavesBeside ino request first (P.asked power.old) (map B.seen blocks.old)
+        (P.asked power.new) (map B.seen blocks.new) }
+    ensures devices { all_devices (map B.seen blocks.new) ≡ all_devices (map B.seen blocks.old) }
+    ensures numbers { map B.number blocks.new ≡ map B.number blocks.old }
+    ensures cause { HaveCause (map B.faults blocks.old) (map B.faults blocks.new) result }
+{
+    for piece in pieces {
+        let (at, from) = (piece.at, piece.from);
+        write_block(blocks, power, at, from, &bytes[piece.start..piece.end])?;
+        flush_block(blocks, power, at)?;
     }
     Ok(())
 }

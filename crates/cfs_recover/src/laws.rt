@@ -1,6 +1,8 @@
 //! What the calls come to, as contracts of functions that do nothing.
 ghost use Rattle.cfs_recover.specs.Brought.{BytesAreBrought};
+ghost use Rattle.cfs_recover.specs.Cut.{TruncatesAreCut, WritesAreCut};
 ghost use Rattle.cfs_recover.specs.Held.{PiecesHold};
+ghost use Rattle.cfs_recover.specs.Settled.{RestIsLeft};
 ghost use Rattle.cfs_recover.specs.Sure.{PiecesAreSure, SureBlocksAreOf};
 
 /// Once the pieces of a request are written and flushed, its bytes stand in the blocks of the file.
@@ -22,4 +24,19 @@ pub fn sure_blocks_are_of()
 /// else is as it was.
 pub fn bytes_are_brought()
     ensures { BytesAreBrought }
+{}
+
+/// Once an entry is home, the rest of its file's live entries is left, and all those of others.
+pub fn rest_is_left()
+    ensures { RestIsLeft }
+{}
+
+/// The part of a write for one block brings its bytes there, and has all that the write touches.
+pub fn writes_are_cut()
+    ensures { WritesAreCut }
+{}
+
+/// So it is of a truncate.
+pub fn truncates_are_cut()
+    ensures { TruncatesAreCut }
 {}

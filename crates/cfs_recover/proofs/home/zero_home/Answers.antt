@@ -1,0 +1,114 @@
+use Rattle.std.proofs.Common.{ℕ, ◌∙◌, ◌++◌, List, length, map, get_or, ap, sym, subst}
+use Rattle.std.proofs.lemmas.List.{length-map}
+use Rattle.std.proofs.lemmas.Result.{err_from_is_err_and}
+use Rattle.cfs_pmem.proofs.AllMomentLemmas.{all_after}
+use Rattle.cfs_pmem.specs.Objects.{all_devices}
+use Rattle.cfs_recover.specs.declared.blocks.TheConstants.{ZEROS}
+use Rattle.cfs_slot.specs.Payload.{HaveCause}
+use Rattle.cfs_recover.specs.Brought.{with_blocks}
+use Rattle.cfs_recover.specs.Held.{AllLieWithin}
+use Rattle.cfs_recover.specs.Pieces.{LiesWithin}
+use Rattle.cfs_recover.proofs.BlockCalls.{on-ok}
+use Rattle.cfs_recover.proofs.Brought.{through-brought}
+use Rattle.cfs_recover.proofs.Ranges.{zeros-long}
+use Rattle.cfs_recover.proofs.Lists.{cause-front, distinct-back, distinct-blocks}
+use Rattle.cfs_recover.proofs.Lists.{distinct-front, failed-back, full-all, within-all}
+use Rattle.cfs_recover.proofs.home.zero_home.Goals as goal
+
+pub bring_through-requires-clause-distinct : goal.bring_through-requires-clause-distinct
+bring_through-requires-clause-distinct g c =
+    distinct-back (all_devices (map g.R.Region.seen c.args.regions.now))
+    (all_devices (map g.B.Block.seen c.args.blocks.now)) c.requires.distinct
+
+pub bring_through-requires-clause-within : goal.bring_through-requires-clause-within
+bring_through-requires-clause-within g c = λ k d less.
+    subst (λ (n : ℕ). LiesWithin (length c.args.blocks.now) n (get_or c.args.pieces.now k d))
+    (sym zeros-long) (c.requires.within k d less)
+
+pub settle-requires-clause-distinct : goal.settle-requires-clause-distinct
+settle-requires-clause-distinct g c =
+    distinct-front (all_devices (map g.R.Region.seen c.args.regions.now))
+    (all_devices (map g.B.Block.seen c.args.blocks.now)) c.requires.distinct
+
+pub returns-in_err-bring_through-clause-moments : goal.returns-in_err-bring_through-clause-moments
+returns-in_err-bring_through-clause-moments g c = λ files file live rest start first takes.
+    c.bring_through.ensures.moments files file c.args.entry.slot live rest start first
+    (map g.R.Region.seen c.args.regions.now) takes.begins takes.cut.touch
+
+pub returns-in_err-bring_through-clause-devices : goal.returns-in_err-bring_through-clause-devices
+returns-in_err-bring_through-clause-devices g c =
+    ap (λ (ns : List (List ℕ)). all_devices (map g.R.Region.seen c.args.regions.now) ++ ns)
+    c.bring_through.ensures.devices
+
+pub returns-in_err-bring_through-clause-cause : goal.returns-in_err-bring_through-clause-cause
+returns-in_err-bring_through-clause-cause g c =
+    let failed = err_from_is_err_and c.from_residual.result c.from_residual.ensures.1 in
+    failed-back (map g.R.Region.faults c.args.regions.now)
+    (map g.B.Block.faults c.args.blocks.now) (map g.B.Block.faults c.bring_through.new.blocks)
+    failed.0 failed.1 c.in_err-bring_through.ensures.cause.later
+    c.in_err-bring_through.ensures.cause.failed
+
+pub returns-clause-moments : goal.returns-clause-moments
+returns-clause-moments g c = λ files file live rest start first takes.
+    let moments = c.bring_through.ensures.moments files file c.args.entry.slot live rest start first
+    (map g.R.Region.seen c.args.regions.now) takes.begins takes.cut.touch in
+    all_after moments
+    (c.settle.ensures.moments files file live rest start
+    (with_blocks (map g.B.Block.seen c.bring_through.new.blocks) first)
+    (map g.B.Block.seen c.bring_through.new.blocks)
+    (through-brought files file c.args.entry live rest start first
+    (map g.R.Region.seen c.args.regions.now) (map g.B.Block.seen c.args.blocks.now)
+    (map g.B.Block.seen c.bring_through.new.blocks) c.args.pieces.now ZEROS _ _ takes
+    (full-all g.B.Block.seen c.args.blocks.now g.met.B.Block.full)
+    (subst (λ (n : ℕ). AllLieWithin n (length ZEROS) c.args.pieces.now)
+    (sym (length-map c.args.blocks.now g.B.Block.seen))
+    (subst (λ (n : ℕ). AllLieWithin (length c.args.blocks.now) n c.args.pieces.now)
+    (sym zeros-long)
+    (within-all (length c.args.blocks.now) 4096 c.args.pieces.now c.requires.within)))
+    c.in_ok-bring_through.ensures.ok
+    (distinct-blocks (map g.R.Region.seen c.args.regions.now)
+    (map g.B.Block.seen c.args.blocks.now) (map g.B.Block.seen c.bring_through.new.blocks)
+    c.bring_through.ensures.devices c.requires.distinct)
+    moments))
+
+pub returns-clause-stands : goal.returns-clause-stands
+returns-clause-stands g c =
+    on-ok c.settle.result
+    (λ stands. λ files file live rest start first takes.
+    stands files file live rest start
+    (with_blocks (map g.B.Block.seen c.bring_through.new.blocks) first)
+    (map g.B.Block.seen c.bring_through.new.blocks)
+    (through-brought files file c.args.entry live rest start first
+    (map g.R.Region.seen c.args.regions.now) (map g.B.Block.seen c.args.blocks.now)
+    (map g.B.Block.seen c.bring_through.new.blocks) c.args.pieces.now ZEROS _ _ takes
+    (full-all g.B.Block.seen c.args.blocks.now g.met.B.Block.full)
+    (subst (λ (n : ℕ). AllLieWithin n (length ZEROS) c.args.pieces.now)
+    (sym (length-map c.args.blocks.now g.B.Block.seen))
+    (subst (λ (n : ℕ). AllLieWithin (length c.args.blocks.now) n c.args.pieces.now)
+    (sym zeros-long)
+    (within-all (length c.args.blocks.now) 4096 c.args.pieces.now c.requires.within)))
+    c.in_ok-bring_through.ensures.ok
+    (distinct-blocks (map g.R.Region.seen c.args.regions.now)
+    (map g.B.Block.seen c.args.blocks.now) (map g.B.Block.seen c.bring_through.new.blocks)
+    c.bring_through.ensures.devices c.requires.distinct)
+    (c.bring_through.ensures.moments files file c.args.entry.slot live rest start first
+    (map g.R.Region.seen c.args.regions.now) takes.begins takes.cut.touch)))
+    c.settle.ensures.stands
+
+pub returns-clause-devices : goal.returns-clause-devices
+returns-clause-devices g c =
+    ap (λ (ns : List (List ℕ)). ns ++ all_devices (map g.B.Block.seen c.bring_through.new.blocks))
+    c.settle.ensures.devices
+    ∙ ap (λ (ns : List (List ℕ)). all_devices (map g.R.Region.seen c.args.regions.now) ++ ns)
+    c.bring_through.ensures.devices
+
+pub returns-clause-cause : goal.returns-clause-cause
+returns-clause-cause g c =
+    subst (λ (ns : List ℕ). HaveCause
+    (map g.R.Region.faults c.args.regions.now ++ ns)
+    (map g.R.Region.faults c.settle.new.regions
+    ++ map g.B.Block.faults c.bring_through.new.blocks) c.settle.result)
+    c.in_ok-bring_through.ensures.cause.passed
+    (cause-front (map g.R.Region.faults c.args.regions.now)
+    (map g.R.Region.faults c.settle.new.regions)
+    (map g.B.Block.faults c.bring_through.new.blocks) c.settle.result c.settle.ensures.cause)
