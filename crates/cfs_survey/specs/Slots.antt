@@ -1,6 +1,8 @@
--- The checks of the slots' words, of which the first six of each are looked at. `at` is the offset of
+-- The checks of the slots' words, of which the first six of each are looked at. `at` is the offset
+-- of
 -- a slot's first word, but in the last definitions that of the first slot of all.
-use Rattle.std.specs.Prelude.{ℕ, ◌+◌, ◌-◌, ◌*◌, ◌/◌, ◌%◌, ◌==◌, ◌&&◌, ◌||◌, not, min, nat_le, nat_lt}
+use Rattle.std.specs.Prelude.{ℕ, ◌+◌, ◌-◌, ◌*◌, ◌/◌, ◌%◌, ◌==◌, ◌&&◌, ◌||◌, not, min, nat_le}
+use Rattle.std.specs.Prelude.{nat_lt}
 use Rattle.std.specs.Prelude.{Bool, List, [], ◌∷◌, ◌++◌, get_or, length, take, drop, position}
 use Rattle.std.specs.Prelude.{Option, Some, None, is_none, if◌then◌else◌}
 use Rattle.std.specs.List.{flat_map, list_all, list_any}

@@ -133,8 +133,7 @@ fn check_homes(at: u32, journal: &[[u64; RECORD_WORDS]]) -> Result<(), Fault>
 }
 
 /// Checks all gates.
-#[tactic(auto, using(crate::proofs::FirstFaults::first_faults),
-    unfolding(crate::specs::Journals::gates_checks))]
+#[tactic(auto, using(crate::proofs::FirstFaults::first_faults), unfolding(crate::specs::Journals::gates_checks))]
 fn check_gates(at: u32, journal: &[[u64; RECORD_WORDS]], last: u64) -> Result<(), Fault>
     requires places { length journal.now ≡ 64 }
     requires low { at < 2 ^ 30 }

@@ -1,4 +1,5 @@
-//! The checks on the words and bytes of a whole store.
+//! The checks on the words of a store that come behind those of its header: of its table, sizes,
+//! journal, tags and slots.
 #![tactic(auto)]
 
 mod changes;

@@ -1,5 +1,6 @@
 //! The slots, and the live entries that they hold.
-ghost use Rattle.std.specs.Prelude.{All, ◌≡◌, ◌<◌, ◌≤◌, ◌^◌, ◌&&◌, ◌||◌, ◌==◌, IfErr, IfOk, None, OnOk};
+ghost use Rattle.std.specs.Prelude.{All, ◌≡◌, ◌<◌, ◌≤◌, ◌^◌, ◌&&◌, ◌||◌, ◌==◌, IfErr, IfOk, None};
+ghost use Rattle.std.specs.Prelude.{OnOk};
 ghost use Rattle.std.specs.Prelude.{is_some, length, nat_eq, nat_lt, not, position};
 ghost use Rattle.std.specs.HashMap.{get};
 ghost use Rattle.std.specs.List.{position_or_len};
@@ -96,8 +97,8 @@ fn gather(
 }
 
 /// The live entries of all files, by inode number and then by gate. The slots are those of all
-/// queues, at most 2^31, of each the words before its payload; the first begins at this offset of an
-/// image, below 2^32. `blocks` has the block of each tag of a file.
+/// queues, at most 2^31, of each the words before its payload; the first begins at this offset of
+/// an image, below 2^32. `blocks` has the block of each tag of a file.
 ///
 /// `Damaged` names the first check that fails, slot by slot; slots with a closed gate, or of an
 /// inode number that is no file's, are passed over. Takes memory for the entries.
