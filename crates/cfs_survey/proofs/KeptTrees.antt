@@ -335,7 +335,8 @@ without_other at nodes next words (suc rec) tree held is sound =
     let first = sound_parts (own ∷ []) (here ∷ others) checks_hold in
     let second = sound_parts (here ∷ []) others first.1 in
     let other = other_found node.parent node.name found (passed here second.0) in
-    let at_rec : node_at nodes rec ≡ Some other.0 = ap (λ r. node_at nodes r) (sym last) ∙ other.1 in
+    let at_rec : node_at nodes rec ≡ Some other.0 =
+    ap (λ r. node_at nodes r) (sym last) ∙ other.1 in
     let checks : damage_of (other_checks (at + 120) nodes kind other.0) ≡ None =
     subst (λ o. damage_of (option_map_or (other_checks (at + 120) nodes kind) o []) ≡ None)
     other.1 second.1 in

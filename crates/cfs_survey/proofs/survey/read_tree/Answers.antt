@@ -1,4 +1,5 @@
-use Rattle.std.proofs.Common.{◌≡◌, ◌∙◌, ◌/◌, ◌<◌, ◌≤◌, ◌^◌, arith, ◌++◌, ℕ, List, sym, ap, ap₂, subst, get_or, length}
+use Rattle.std.proofs.Common.{◌≡◌, ◌∙◌, ◌/◌, ◌<◌, ◌≤◌, ◌^◌, arith, ◌++◌, ℕ, List, sym, ap}
+use Rattle.std.proofs.Common.{ap₂, subst, get_or, length}
 use Rattle.std.specs.Prelude.{All, None}
 use Rattle.std.proofs.lemmas.Result.{err_from_is_err_and}
 use Rattle.std.proofs.lemmas.List.{get_or_default}

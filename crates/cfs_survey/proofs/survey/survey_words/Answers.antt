@@ -9,7 +9,8 @@ use Rattle.cfs_survey.specs.declared.refusal.SurveyRefusal.TheVariants.{Damaged}
 use Rattle.cfs_survey.specs.Refusals.{Refuses}
 use Rattle.cfs_survey.specs.Sizes.{sizes_checks}
 use Rattle.cfs_survey.specs.Slots.{slots_checks}
-use Rattle.cfs_survey.specs.Surveys.{Words, is_mapped, namespace_checks, recovered_tree, survey_checks}
+use Rattle.cfs_survey.specs.Surveys.{Words, is_mapped, namespace_checks, recovered_tree}
+use Rattle.cfs_survey.specs.Surveys.{survey_checks}
 use Rattle.cfs_survey.specs.Surveys.{words_of}
 use Rattle.cfs_survey.specs.Tags.{tags_checks}
 use Rattle.cfs_survey.proofs.FirstFaults.{behind_sound}
