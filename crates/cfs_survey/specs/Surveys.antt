@@ -56,12 +56,17 @@ recovered_tree words =
 abbrev pub is_mapped : List ℕ → ℕ → Bool
 is_mapped tags tag = is_some (block_of tags (length tags) tag)
 
--- the table, the journal, the sizes, the tags, the slots
+-- the table, the journal
+unfoldable pub namespace_checks : Words → List Check
+namespace_checks words =
+    table_checks (selected_at words.selector) words.table
+    ++ journal_checks (selected_at words.selector) (journal_at 0) (through_of words.selector)
+    (table_in words.table) words.journal
+
+-- these, and then the sizes, the tags, the slots
 unfoldable pub survey_checks : Words → List Check
 survey_checks words =
-    table_checks (selected_at words.selector) words.table
-    ++ (journal_checks (selected_at words.selector) (journal_at 0) (through_of words.selector)
-    (table_in words.table) words.journal
+    namespace_checks words
     ++ (sizes_checks (size_at 0) words.sizes (recovered_tree words).nodes
     ++ (tags_checks (block_at (length words.slots / 16) 0) (recovered_tree words).nodes words.tags
-    ++ slots_checks (slot_at 0) (recovered_tree words).nodes (is_mapped words.tags) words.slots)))
+    ++ slots_checks (slot_at 0) (recovered_tree words).nodes (is_mapped words.tags) words.slots))

@@ -1,9 +1,8 @@
-use Rattle.std.proofs.Common.{◌≡◌, ◌∙◌, ◌+◌, ◌++◌, List, ℕ, length, sym, ap, subst}
+use Rattle.std.proofs.Common.{◌≡◌, ◌∙◌, ◌+◌, ◌++◌, List, ℕ, sym, ap, subst}
 use Rattle.std.proofs.lemmas.Result.{err_from_is_err_and}
 use Rattle.cfs_dir.specs.Namespace.{Namespace}
 use Rattle.cfs_image.specs.Checks.{Check, damage_of}
 use Rattle.cfs_survey.specs.declared.refusal.SurveyRefusal.TheVariants.{Damaged}
-use Rattle.cfs_survey.specs.Faults.{damage_in}
 use Rattle.cfs_survey.specs.Journals.{changes_checks, gates_checks, last_reached, reached}
 use Rattle.cfs_survey.specs.Journals.{table_places}
 use Rattle.cfs_survey.specs.Refusals.{Refuses}
