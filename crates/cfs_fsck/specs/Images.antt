@@ -22,8 +22,8 @@ tags_at bytes queues blocks =
     map (λ block. word_at bytes (block_at queues block)) (range_with_len 0 blocks)
 
 -- The selector, the table that it selects, 64 records of the journal, 256 sizes, the first six
--- words of each of the 16 slots of each queue, and the tag of each block. The header has the numbers
--- of queues and blocks.
+-- words of each of the 16 slots of each queue, and the tag of each block. The header has the
+-- numbers of queues and blocks.
 unfoldable pub image_words : List ℕ → Words
 image_words bytes = record {
   selector = word_at bytes selector_at;

@@ -16,8 +16,8 @@ is_noop numbers words =
 abbrev pub is_tag_of : (ℕ → Bool) → ℕ → Bool
 is_tag_of numbers tag = numbers (tag / 65536)
 
--- of a store with these nodes: how many they are, the live entries and the no-ops of files among its
--- slots, and the blocks that are tagged for files
+-- of a store with these nodes: how many they are, the live entries and the no-ops of files among
+-- its slots, and the blocks that are tagged for files
 abbrev pub counts_of : List Node → Words → Report
 counts_of nodes words = record {
   nodes = length nodes;
