@@ -1,0 +1,4 @@
+pub mod Files
+pub mod Images
+pub mod Refusals
+pub mod Reports

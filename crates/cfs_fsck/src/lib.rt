@@ -1,0 +1,11 @@
+//! All checks of an image, and what it holds where it passes them.
+#![tactic(auto)]
+
+mod check;
+mod count;
+mod kinds;
+mod report;
+mod words;
+
+pub use check::check_image;
+pub use report::Report;
