@@ -13,7 +13,7 @@ use Rattle.cfs_dir.specs.Namespace.{Namespace, node_at, placed, without}
 use Rattle.cfs_dir.specs.Words.{node_in, replaced_in}
 use Rattle.cfs_dir.proofs.Members.{find-Some}
 use Rattle.cfs_journal.specs.Records.{change_of}
-use Rattle.cfs_survey.specs.Changes.{ino_of, last_of, node_row, node_told, number_of, operation_of}
+use Rattle.cfs_survey.specs.Changes.{ino_of, last_of, node_told, number_of, operation_of}
 use Rattle.cfs_survey.specs.Changes.{placed_by}
 use Rattle.cfs_survey.specs.Journals.{places_after, record_at, tree_after}
 

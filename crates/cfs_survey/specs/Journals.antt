@@ -1,6 +1,6 @@
 -- The checks of the journal, whose 64 records have sixteen words each. `at` is the offset of the
 -- first one.
-use Rattle.std.specs.Prelude.{ℕ, zero, suc, ◌+◌, ◌-◌, ◌*◌, ◌%◌, ◌==◌, ◌||◌, List, [], ◌∷◌, ◌++◌}
+use Rattle.std.specs.Prelude.{ℕ, ◌+◌, ◌-◌, ◌*◌, ◌%◌, ◌==◌, ◌||◌, List, [], ◌∷◌, ◌++◌}
 use Rattle.std.specs.Prelude.{get_or, length, map, take}
 use Rattle.std.specs.List.{range_with_len}
 use Rattle.cfs_dir.specs.Change.{changed_by}

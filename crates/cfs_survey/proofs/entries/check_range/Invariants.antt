@@ -1,4 +1,4 @@
-use Rattle.std.proofs.Common.{◌≡◌, ◌≤◌, ◌-◌}
+use Rattle.std.proofs.Common.{◌≡◌, ◌-◌}
 use Rattle.std.specs.Prelude.{None, is_some, nat_eq}
 use Rattle.std.specs.HashMap.{get}
 use Rattle.cfs_image.specs.Checks.{damage_of}

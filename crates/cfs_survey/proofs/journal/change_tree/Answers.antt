@@ -1,4 +1,4 @@
-use Rattle.std.proofs.Common.{◌≡◌, ◌∙◌, ◌%◌, ℕ, List, [], get_or, ap}
+use Rattle.std.proofs.Common.{◌∙◌, ◌%◌, ℕ, List, [], get_or, ap}
 use Rattle.cfs_image.specs.Checks.{damage_of}
 use Rattle.cfs_survey.specs.Changes.{change_checks}
 use Rattle.cfs_survey.specs.Journals.{record_at}

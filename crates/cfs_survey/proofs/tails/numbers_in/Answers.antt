@@ -1,4 +1,4 @@
-use Rattle.std.proofs.Common.{◌≡◌, ◌-◌, ◌+◌, arith}
+use Rattle.std.proofs.Common.{◌-◌, ◌+◌, arith}
 use Rattle.cfs_slot.specs.Tails.{numbers_from, numbers_in}
 use Rattle.cfs_survey.proofs.SlotLemmas.{numbers_done, numbers_more}
 use Rattle.cfs_survey.proofs.tails.numbers_in.Goals as goal

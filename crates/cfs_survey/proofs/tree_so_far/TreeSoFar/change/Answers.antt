@@ -1,6 +1,5 @@
-use Rattle.std.proofs.Common.{◌≡◌, ◌∙◌, ◌∷◌, ℕ, List, sym, ap}
-use Rattle.std.specs.Prelude.{Some}
-use Rattle.cfs_image.specs.Checks.{Check, damage_of}
+use Rattle.std.proofs.Common.{◌∷◌, ℕ, sym, ap}
+use Rattle.cfs_image.specs.Checks.{damage_of}
 use Rattle.cfs_survey.specs.Changes.{change_checks, create_checks, kind_checks, moving_checks}
 use Rattle.cfs_survey.specs.Changes.{operation_check}
 use Rattle.cfs_survey.specs.SoFar.{places_of, tree_of}

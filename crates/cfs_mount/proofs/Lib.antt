@@ -1,0 +1,5 @@
+pub mod Distinct
+pub mod Fronts
+pub mod Standings
+pub mod Walking
+pub mod stored_tree
