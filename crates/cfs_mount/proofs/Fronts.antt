@@ -1,6 +1,6 @@
 -- What a selector, two copies of a table and a journal that hold a store's words stand for.
-use Rattle.std.proofs.Common.{◌≡◌, ◌∙◌, ℕ, suc, ◌+◌, ◌-◌, ◌/◌, ◌%◌, ◌^◌, ◌<◌, ◌≤◌, Bool, false, List, []}
-use Rattle.std.proofs.Common.{◌∷◌, ◌++◌, length, drop, get_or, None, refl, sym, ap, subst, arith}
+use Rattle.std.proofs.Common.{◌≡◌, ◌∙◌, ℕ, suc, ◌-◌, ◌/◌, ◌%◌, ◌^◌, ◌<◌, false, List, []}
+use Rattle.std.proofs.Common.{◌∷◌, length, drop, get_or, None, sym, ap, arith}
 use Rattle.cfs_dir.specs.declared.change.Change.{Change}
 use Rattle.cfs_dir.specs.Change.{changed_by}
 use Rattle.cfs_dir.specs.Namespace.{Namespace}

@@ -40,7 +40,8 @@ walk_gate (suc most) through journal k below =
     split false is deeper k below = absurd (omega (arith, below))
     split true is deeper zero below =
         let same : through ≡ through + zero = omega arith in
-        let here : gate_of (get_or journal (through % 64) []) ≡ suc through = grind (arith, nat_tests, is) in
+        let here : gate_of (get_or journal (through % 64) []) ≡ suc through =
+        grind (arith, nat_tests, is) in
         subst (λ t. gate_of (get_or journal (t % 64) []) ≡ t + 1) same (here ∙ omega arith)
     split true is deeper (suc k) below =
         let next : suc through + k ≡ through + suc k = omega arith in

@@ -27,11 +27,13 @@ returns-in_err-change_tree-clause-named c =
     let each =
     reached_checks c.args.at c.args.through (tree_of c.args.tree.now)
     (places_of c.args.tree.now) (reached c.args.through c.args.journal.now) in
-    let p = err_from_is_err_and c.from_residual-in_err-change_tree.result c.from_residual-in_err-change_tree.ensures.1 in
+    let p = err_from_is_err_and c.from_residual-in_err-change_tree.result
+    c.from_residual-in_err-change_tree.ensures.1 in
     let refusal = c.in_err-change_tree.field-0.0 in
     let below : c.loop-k.k < length (reached c.args.through c.args.journal.now) =
     omega (arith, c.requires.count) in
-    refused_with c.from_residual-in_err-change_tree.result
+    let residual = c.from_residual-in_err-change_tree in
+    refused_with residual.result
     (checks_from each 0 (length (reached c.args.through c.args.journal.now))) p.0 refusal p.1
     p.2
     (refused_at each 0 c.loop-k.k (length (reached c.args.through c.args.journal.now)) c.loop-k.k
