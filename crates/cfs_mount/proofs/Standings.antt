@@ -43,7 +43,7 @@ gate_holds at last position journal within sound =
       bound = grind (arith, nat_tests, passed _ bound);
       home = elim (cases_eq gate 0) [
         | inl zero ↦ inl zero
-        | inr open ↦ inr (grind (arith, nat_tests, passed _ home, open))
+        | inr opened ↦ inr (grind (arith, nat_tests, passed _ home, opened))
       ];
     }
 
@@ -59,8 +59,8 @@ spent_here through n k image above below holds = record {
     ]
     | inr low ↦ omega (arith, low)
   ];
-  placed = λ open. elim holds.home [
-    | inl zero ↦ absurd (open zero)
+  placed = λ opened. elim holds.home [
+    | inl zero ↦ absurd (opened zero)
     | inr home ↦ home
   ];
 }
@@ -103,8 +103,8 @@ checked-stands at through journal seens places low long distinct hold sound = re
       (subst (λ m. IsImage (seen_at seens (place through m)).history image) changes_few possible) in
       subst (λ m. IsNext through (through + m + 1) (place through m) None image) (sym changes_few)
       (record {
-        opened = λ open. absurd (walk_end 64 through journal (omega (arith, less, changes_few))
-        (ap (λ ws. gate_of ws) (sym held) ∙ open));
+        opened = λ same. absurd (walk_end 64 through journal (omega (arith, less, changes_few))
+        (ap (λ ws. gate_of ws) (sym held) ∙ same));
         shut = λ shut. spent_at n image (omega arith) (omega (arith, less, changes_few)) held;
       });
   spent = λ k above below image possible.
