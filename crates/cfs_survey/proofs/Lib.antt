@@ -15,3 +15,7 @@ pub mod TagLemmas
 pub mod ReachedLemmas
 pub mod SlotLemmas
 pub mod LiveLemmas
+pub mod MappedLemmas
+pub mod KeptLemmas
+pub mod StandingLemmas
+pub mod KeptTrees

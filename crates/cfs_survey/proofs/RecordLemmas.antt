@@ -1,5 +1,5 @@
 -- What the records of a table that pass their checks say of its nodes.
-use Rattle.std.proofs.Common.{◌≡◌, ◌≢◌, ℕ, ◌+◌, ◌<◌, ◌≤◌, zero, suc, List, [], ◌∷◌, ◌++◌, length, get_or, take, true, false, Bool, refl, sym, ◌∙◌, ap, subst, arith, eq-eqb, append-nil}
+use Rattle.std.proofs.Common.{◌≡◌, ◌≢◌, ℕ, ◌+◌, ◌<◌, ◌≤◌, zero, suc, List, [], ◌∷◌, ◌++◌, get_or, take, true, false, Bool, refl, sym, ◌∙◌, ap, subst, arith, eq-eqb, append-nil}
 use Rattle.std.specs.Prelude.{All, None, Option, Some, find, is_none, nat_lt, cond, ◌==◌, if◌then◌else◌}
 use Rattle.std.specs.Option.{option_or}
 use Rattle.std.proofs.lemmas.Bool.{eqb-false, eqb-true, ltb-true}
@@ -10,13 +10,13 @@ use Rattle.cfs_dir.specs.declared.node.Node.{Node}
 use Rattle.cfs_dir.specs.Namespace.{node_of}
 use Rattle.cfs_dir.specs.Tree.{IsRoot}
 use Rattle.cfs_dir.specs.Words.{node_in}
-use Rattle.cfs_image.specs.Checks.{Check, check, damage_of}
+use Rattle.cfs_image.specs.Checks.{check, damage_of}
 use Rattle.cfs_survey.specs.Faults.{checks_from, equal}
-use Rattle.cfs_survey.specs.Fields.{field_checks, kind_check, name_checks, name_room, owner_checks, root_checks}
+use Rattle.cfs_survey.specs.Fields.{field_checks, name_room, owner_checks, root_checks}
 use Rattle.cfs_survey.specs.Places.{rec_of}
 use Rattle.cfs_survey.specs.Tables.{nodes_below, number_checks, record_checks, row, row_at, standing}
 use Rattle.cfs_survey.proofs.FirstFaults.{holds_at, passed, sound_parts}
-use Rattle.cfs_survey.proofs.RowLemmas.{IsSoundNode, name_holds, name_size, owner_holds, row_size}
+use Rattle.cfs_survey.proofs.RowLemmas.{IsSoundNode, owner_holds, row_holds}
 use Rattle.cfs_survey.proofs.TableLemmas.{below_first, below_next}
 
 pub none_found : (found : Option Node) → is_none found ≡ true → found ≡ None
@@ -24,27 +24,24 @@ none_found None h = refl
 none_found (Some x) h = absurd (cc)
 
 -- a node that is not the root's
-pub node_holds : (at next rec : ℕ) (words : List ℕ) (lower : List Node) → length words ≡ 12 → (get_or words 0 0 == 0) ≡ false
+pub node_holds : (at next rec : ℕ) (words : List ℕ) (lower : List Node) → (get_or words 0 0 == 0) ≡ false
     → damage_of (number_checks at (get_or words 0 0) next lower ++ field_checks at words) ≡ None
     → IsSoundNode next (node_in rec words) × (node_of lower (get_or words 0 0) ≡ None)
-node_holds at next rec words lower size stands sound =
+node_holds at next rec words lower stands sound =
     let ino : ℕ = get_or words 0 0 in
     let some : ino ≢ 0 = eqb-false ino 0 stands in
     let below = check (nat_lt ino next) at ino next in
     let other = check (is_none (node_of lower ino)) at ino (rec_of (node_of lower ino)) in
     let parts = sound_parts (below ∷ other ∷ []) (field_checks at words) sound in
     let number = sound_parts (below ∷ []) (other ∷ []) parts.0 in
-    let names : List Check = name_checks at (get_or words 6 0) (name_room words) in
-    let fields = sound_parts (kind_check at (get_or words 2 0) ∷ []) (owner_checks at words ++ names) parts.1 in
-    let own = sound_parts (owner_checks at words) names fields.1 in
-    let owner = owner_holds at words own.0 in (
+    let fields = row_holds at words parts.1 in (
       record {
         low = omega arith;
         below = ltb-true ino next (passed below number.0);
-        mode = owner.mode;
-        uid = owner.uid;
-        gid = owner.gid;
-        name = λ _. name_holds at (get_or words 6 0) (name_room words) (name_size words size) own.1;
+        mode = fields.owned.mode;
+        uid = fields.owned.uid;
+        gid = fields.owned.gid;
+        name = λ _. fields.name;
       },
       none_found (node_of lower ino) (passed other number.1),
     )
@@ -94,9 +91,9 @@ once_more nodes x once none =
     (All-nil P))
 
 -- what stands in a record that passes its checks
-pub record_holds : (at : ℕ) (words : List ℕ) (rec : ℕ) → length words ≡ 3073 → rec < 256 → damage_of (record_checks at words rec) ≡ None
+pub record_holds : (at : ℕ) (words : List ℕ) (rec : ℕ) → damage_of (record_checks at words rec) ≡ None
     → All (λ x. IsSoundNode (get_or words 0 0) x × (node_of (nodes_below words rec) x.ino ≡ None)) (standing rec (row words rec))
-record_holds at words rec size below sound = split (get_or (row words rec) 0 0 == 0) refl sound
+record_holds at words rec sound = split (get_or (row words rec) 0 0 == 0) refl sound
   where
     split : (b : Bool) → (get_or (row words rec) 0 0 == 0) ≡ b
         → damage_of (if b then [] else number_checks (row_at at rec) (get_or (row words rec) 0 0) (get_or words 0 0) (nodes_below words rec) ++ field_checks (row_at at rec) (row words rec)) ≡ None
@@ -104,7 +101,7 @@ record_holds at words rec size below sound = split (get_or (row words rec) 0 0 =
     split true e h = All-nil (λ x. IsSoundNode (get_or words 0 0) x × (node_of (nodes_below words rec) x.ino ≡ None))
     split false e h =
         All-cons (λ x. IsSoundNode (get_or words 0 0) x × (node_of (nodes_below words rec) x.ino ≡ None)) (node_in rec (row words rec)) []
-        (node_holds (row_at at rec) (get_or words 0 0) rec (row words rec) (nodes_below words rec) (row_size words rec size below) e h)
+        (node_holds (row_at at rec) (get_or words 0 0) rec (row words rec) (nodes_below words rec) e h)
         (All-nil (λ x. IsSoundNode (get_or words 0 0) x × (node_of (nodes_below words rec) x.ino ≡ None)))
 
 -- nodes that are sound each, of which no two have one number
@@ -123,21 +120,21 @@ append_sound next nodes false x h all =
     }
 
 -- the nodes of the first records, of which the root is one
-pub records_hold : (at : ℕ) (words : List ℕ) (n : ℕ) → length words ≡ 3073 → n < 256 → 2 ≤ get_or words 0 0
+pub records_hold : (at : ℕ) (words : List ℕ) (n : ℕ) → n < 256 → 2 ≤ get_or words 0 0
     → damage_of (root_checks (row_at at 0) (row words 0)) ≡ None → damage_of (checks_from (record_checks at words) 1 255) ≡ None
     → AreSound (get_or words 0 0) (nodes_below words (n + 1))
-records_hold at words zero size below low root others =
+records_hold at words zero below low root others =
     let first = root_holds (row_at at 0) (get_or words 0 0) (row words 0) low root in
     let x : Node = node_in 0 (row words 0) in
     subst (AreSound (get_or words 0 0)) (sym (below_first words first.1.ino)) (record {
       sound = All-cons (IsSoundNode (get_or words 0 0)) x [] first.0 (All-nil (IsSoundNode (get_or words 0 0)));
       once = once_more [] x (All-nil (λ y. node_of [] y.ino ≡ Some y)) refl;
     })
-records_hold at words (suc n) size below low root others =
+records_hold at words (suc n) below low root others =
     let rec : ℕ = n + 1 in
     let more : rec + 1 ≡ suc n + 1 = omega arith in
-    let here = record_holds at words rec size (omega arith) (holds_at (record_checks at words) 1 255 n rec (omega arith) (omega arith) others) in
-    let deeper = records_hold at words n size (omega arith) low root others in
+    let here = record_holds at words rec (holds_at (record_checks at words) 1 255 n rec (omega arith) (omega arith) others) in
+    let deeper = records_hold at words n (omega arith) low root others in
     subst (λ m. AreSound (get_or words 0 0) (nodes_below words m)) more
     (subst (AreSound (get_or words 0 0)) (sym (below_next words rec))
     (append_sound (get_or words 0 0) (nodes_below words rec) (get_or (row words rec) 0 0 == 0) (node_in rec (row words rec)) deeper here))

@@ -1,6 +1,6 @@
 -- The refusals of checks that are put together.
 use Rattle.std.proofs.Common.{◌≡◌, ℕ, ◌+◌, ◌<◌, List, ◌++◌, sym, ◌∙◌, subst}
-use Rattle.std.specs.Prelude.{None, Result, Ok, Err, IfErr}
+use Rattle.std.specs.Prelude.{None, Result, Ok, Err, IfErr, IfOk, OnOk}
 use Rattle.cfs_image.specs.Checks.{Check, damage_of}
 use Rattle.cfs_survey.specs.declared.refusal.SurveyRefusal.{SurveyRefusal}
 use Rattle.cfs_survey.specs.declared.refusal.SurveyRefusal.TheVariants.{Damaged, NoMemory}
@@ -40,3 +40,19 @@ pub refuses_same : (xs ys : List Check) (refusal : SurveyRefusal) →
     damage_of xs ≡ damage_of ys → Refuses xs refusal → Refuses ys refusal
 refuses_same xs ys (Damaged fault) e h = sym e ∙ h
 refuses_same xs ys NoMemory e h = tt
+
+-- what is known of an answer says what it refuses, and what it tells
+pub if_err_with : {T E : Type 0} (r : Result T E) (P Q : E → Type 0) → ((x : E) → P x → Q x) →
+    IfErr r P → IfErr r Q
+if_err_with (Ok x) P Q more h = tt
+if_err_with (Err e) P Q more h = more e h
+
+pub if_ok_with : {T E : Type 0} (r : Result T E) (P : Type 0) (Q R : T → Type 0) →
+    ((x : T) → P → Q x → R x) → OnOk r P → IfOk r Q → IfOk r R
+if_ok_with (Ok x) P Q R more here h = more x here h
+if_ok_with (Err e) P Q R more here h = tt
+
+pub if_ok_more : {T E : Type 0} (r : Result T E) (Q R : T → Type 0) → ((x : T) → Q x → R x) →
+    IfOk r Q → IfOk r R
+if_ok_more (Ok x) Q R more h = more x h
+if_ok_more (Err e) Q R more h = tt

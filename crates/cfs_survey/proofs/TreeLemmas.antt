@@ -13,8 +13,8 @@ use Rattle.cfs_dir.specs.Tree.{AreAscendingFrom, leads_to_root}
 use Rattle.cfs_dir.specs.Words.{node_in, nodes_in}
 use Rattle.cfs_image.specs.Checks.{Check, check, damage_of}
 use Rattle.cfs_survey.specs.Faults.{at_least, at_most}
-use Rattle.cfs_survey.specs.Places.{names_directory, place_checks}
-use Rattle.cfs_survey.specs.Tables.{next_checks, places_checks, row_at}
+use Rattle.cfs_survey.specs.Places.{names_directory, place_checks, places_checks}
+use Rattle.cfs_survey.specs.Tables.{next_checks}
 use Rattle.cfs_survey.proofs.FirstFaults.{passed, sound_parts}
 
 -- where the checks of all members hold, those of each do
@@ -35,31 +35,31 @@ directory_kind : (kind : Kind) → is_directory kind ≡ true → kind ≡ Direc
 directory_kind Directory h = refl
 directory_kind File h = absurd (cc)
 
-found_directory : (found : Option Node) → option_map_or (λ node. is_directory node.kind) found false ≡ true
+pub found_directory : (found : Option Node) → option_map_or (λ node. is_directory node.kind) found false ≡ true
     → IsSomeAnd found (λ parent. parent.kind ≡ Directory)
 found_directory None h = absurd (cc)
 found_directory (Some node) h = directory_kind node.kind h
 
 -- each parent is a directory, and at most 16 parents lead from each node to the root
-pub parents_hold : (at : ℕ) (nodes : List Node) → damage_of (places_checks at nodes) ≡ None
+pub parents_hold : (place : ℕ → ℕ) (nodes : List Node) → damage_of (places_checks place nodes) ≡ None
     → All (λ node. IsSomeAnd (node_of nodes node.parent) (λ parent. parent.kind ≡ Directory)) nodes
 unfolding places_checks
-parents_hold at nodes sound =
-    All-weaker (λ node. damage_of (place_checks (row_at at node.rec) nodes node) ≡ None) (λ node. IsSomeAnd (node_of nodes node.parent) (λ parent. parent.kind ≡ Directory))
+parents_hold place nodes sound =
+    All-weaker (λ node. damage_of (place_checks (place node.rec) nodes node) ≡ None) (λ node. IsSomeAnd (node_of nodes node.parent) (λ parent. parent.kind ≡ Directory))
     (λ node here.
-    let first = check (names_directory nodes node.parent) (row_at at node.rec + 8) node.parent 0 in
-    found_directory (node_of nodes node.parent) (passed first (sound_parts (first ∷ []) (drop 1 (place_checks (row_at at node.rec) nodes node)) here).0))
-    nodes (all_sound (λ node. place_checks (row_at at node.rec) nodes node) nodes sound)
+    let first = check (names_directory nodes node.parent) (place node.rec + 8) node.parent 0 in
+    found_directory (node_of nodes node.parent) (passed first (sound_parts (first ∷ []) (drop 1 (place_checks (place node.rec) nodes node)) here).0))
+    nodes (all_sound (λ node. place_checks (place node.rec) nodes node) nodes sound)
 
-pub depths_hold : (at : ℕ) (nodes : List Node) → damage_of (places_checks at nodes) ≡ None
+pub depths_hold : (place : ℕ → ℕ) (nodes : List Node) → damage_of (places_checks place nodes) ≡ None
     → All (λ node. IsTrue (leads_to_root 16 nodes node.ino)) nodes
 unfolding places_checks
-depths_hold at nodes sound =
-    All-weaker (λ node. damage_of (place_checks (row_at at node.rec) nodes node) ≡ None) (λ node. IsTrue (leads_to_root 16 nodes node.ino))
+depths_hold place nodes sound =
+    All-weaker (λ node. damage_of (place_checks (place node.rec) nodes node) ≡ None) (λ node. IsTrue (leads_to_root 16 nodes node.ino))
     (λ node here.
-    let last = check (leads_to_root 16 nodes node.ino) (row_at at node.rec) node.ino 16 in
-    passed last (sound_parts (take 2 (place_checks (row_at at node.rec) nodes node)) (last ∷ []) here).1)
-    nodes (all_sound (λ node. place_checks (row_at at node.rec) nodes node) nodes sound)
+    let last = check (leads_to_root 16 nodes node.ino) (place node.rec) node.ino 16 in
+    passed last (sound_parts (take 2 (place_checks (place node.rec) nodes node)) (last ∷ []) here).1)
+    nodes (all_sound (λ node. place_checks (place node.rec) nodes node) nodes sound)
 
 -- the nodes of n records stand by ascending record
 later : (nodes : List Node) (m n : ℕ) → m ≤ n → AreAscendingFrom n nodes → AreAscendingFrom m nodes

@@ -3,7 +3,6 @@
 use Rattle.std.specs.Prelude.{ℕ, ◌+◌, ◌-◌, ◌==◌, ◌&&◌, not, min, nat_le, nat_lt, Bool, false}
 use Rattle.std.specs.Prelude.{List, [], ◌∷◌, ◌++◌, get_or, set, take, drop, Option, Some, None}
 use Rattle.std.specs.Prelude.{is_none, unwrap_or, if◌then◌else◌}
-use Rattle.std.specs.List.{flat_map}
 use Rattle.std.specs.Option.{option_map_or}
 use Rattle.cfs_dir.specs.declared.node.Node.{Node}
 use Rattle.cfs_dir.specs.Change.{changed}
@@ -14,7 +13,7 @@ use Rattle.cfs_image.specs.Checks.{Check, check}
 use Rattle.cfs_journal.specs.Records.{change_of}
 use Rattle.cfs_survey.specs.Faults.{at_least, at_most, equal}
 use Rattle.cfs_survey.specs.Fields.{field_checks}
-use Rattle.cfs_survey.specs.Places.{names_directory, place_checks, rec_of}
+use Rattle.cfs_survey.specs.Places.{names_directory, places_checks, rec_of}
 
 -- the words of a record by name
 abbrev pub operation_of : List ℕ → ℕ
@@ -144,9 +143,8 @@ move_checks at nodes words =
 
 -- Where each node of a tree stands in it; the words of the node of record r begin at the r-th of
 -- these offsets.
-unfoldable pub tree_checks : List ℕ → List Node → List Check
-tree_checks places nodes =
-    flat_map (λ node. place_checks (get_or places node.rec 0) nodes node) nodes
+abbrev pub tree_checks : List ℕ → List Node → List Check
+tree_checks places nodes = places_checks (λ rec. get_or places rec 0) nodes
 
 -- the offsets of the nodes' words after a record; a node that is made or moved has its words there
 abbrev pub placed_by : ℕ → List ℕ → List ℕ → List ℕ

@@ -11,3 +11,4 @@ pub mod Mapped
 pub mod Tags
 pub mod Slots
 pub mod Live
+pub mod Surveys

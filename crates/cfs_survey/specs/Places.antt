@@ -1,5 +1,6 @@
 -- The checks of where a node stands in a tree. `at` is the offset of its first word.
 use Rattle.std.specs.Prelude.{ℕ, ◌+◌, ◌&&◌, nat_lt, Bool, false, List, [], ◌∷◌, Option, Some, None, find, is_none}
+use Rattle.std.specs.List.{flat_map}
 use Rattle.std.specs.Option.{option_map_or}
 use Rattle.cfs_dir.specs.declared.node.Node.{Node}
 use Rattle.cfs_dir.specs.Namespace.{is_child, is_directory, node_of}
@@ -27,3 +28,7 @@ place_checks at nodes node =
     check (names_directory nodes node.parent) (at + 8) node.parent 0
     ∷ check (is_none (twin_of nodes node)) at node.rec (rec_of (twin_of nodes node))
     ∷ check (leads_to_root 16 nodes node.ino) at node.ino 16 ∷ []
+
+-- Each of these nodes; the words of that of record r begin at `place r`.
+unfoldable pub places_checks : (ℕ → ℕ) → List Node → List Check
+places_checks place nodes = flat_map (λ node. place_checks (place node.rec) nodes node) nodes

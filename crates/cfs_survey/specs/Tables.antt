@@ -1,13 +1,12 @@
 -- The checks of a table, which has 3073 words. `at` is the offset of the first one.
 use Rattle.std.specs.Prelude.{ℕ, ◌+◌, ◌*◌, ◌==◌, nat_lt, List, [], ◌∷◌, ◌++◌, get_or, take, drop, is_none, if◌then◌else◌}
-use Rattle.std.specs.List.{flat_map}
 use Rattle.cfs_dir.specs.declared.node.Node.{Node}
 use Rattle.cfs_dir.specs.Namespace.{node_of}
 use Rattle.cfs_dir.specs.Words.{node_in, nodes_in, table_in}
 use Rattle.cfs_image.specs.Checks.{Check, check}
 use Rattle.cfs_survey.specs.Faults.{at_least, at_most, checks_from}
 use Rattle.cfs_survey.specs.Fields.{field_checks, root_checks}
-use Rattle.cfs_survey.specs.Places.{place_checks, rec_of}
+use Rattle.cfs_survey.specs.Places.{places_checks, rec_of}
 
 -- the next inode number
 unfoldable pub next_checks : ℕ → ℕ → List Check
@@ -46,13 +45,9 @@ unfoldable pub records_checks : ℕ → List ℕ → List Check
 records_checks at words =
     root_checks (row_at at 0) (row words 0) ++ checks_from (record_checks at words) 1 255
 
--- where each of these nodes stands
-unfoldable pub places_checks : ℕ → List Node → List Check
-places_checks at nodes = flat_map (λ node. place_checks (row_at at node.rec) nodes node) nodes
-
 -- The next number, each record by itself, and then each node in the tree of all of them, ascending.
 -- The root passes the last of these wherever it passes its own.
 abbrev pub table_checks : ℕ → List ℕ → List Check
 table_checks at words =
     next_checks at (get_or words 0 0)
-    ++ (records_checks at words ++ places_checks at (table_in words).nodes)
+    ++ (records_checks at words ++ places_checks (row_at at) (table_in words).nodes)

@@ -4,8 +4,8 @@ ghost use Rattle.cfs_dir.specs.Namespace.{node_of};
 ghost use Rattle.cfs_dir.specs.Tree.{leads_to_root};
 ghost use Rattle.cfs_image.specs.Checks.{damage_of};
 ghost use Rattle.cfs_survey.specs.Faults.{reported};
-ghost use Rattle.cfs_survey.specs.Places.{names_directory, place_checks, rec_of, twin_of};
-ghost use Rattle.cfs_survey.specs.Tables.{places_checks, row_at};
+ghost use Rattle.cfs_survey.specs.Places.{names_directory, place_checks, places_checks, rec_of, twin_of};
+ghost use Rattle.cfs_survey.specs.Tables.{row_at};
 
 use crate::fault::{Fault, ensure};
 use cfs_dir::{DEEPEST, Node};
@@ -100,7 +100,7 @@ fn check_row(at: u64, nodes: &[Node], node: &Node) -> Result<(), Fault>
 /// Checks where each node of a table stands, which begins at this offset.
 pub(crate) fn check_places(at: u64, nodes: &[Node]) -> Result<(), Fault>
     requires { at < 2 ^ 32 }
-    ensures { reported result ≡ damage_of (places_checks at nodes.now) }
+    ensures { reported result ≡ damage_of (places_checks (row_at at) nodes.now) }
 {
     for node in nodes {
         check_row(at, nodes, node)?;

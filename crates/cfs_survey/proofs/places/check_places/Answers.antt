@@ -6,7 +6,8 @@ use Rattle.cfs_dir.specs.declared.node.Node.{Node}
 use Rattle.cfs_image.specs.Checks.{damage_of}
 use Rattle.cfs_survey.specs.Faults.{damage_in, reported}
 use Rattle.cfs_survey.specs.Places.{place_checks}
-use Rattle.cfs_survey.specs.Tables.{places_checks, row_at}
+use Rattle.cfs_survey.specs.Tables.{row_at}
+use Rattle.cfs_survey.specs.Places.{places_checks}
 use Rattle.cfs_survey.proofs.FirstFaults.{fails_taken, sound_taken}
 use Rattle.cfs_survey.proofs.places.check_places.Goals as goal
 

@@ -4,14 +4,13 @@ use Rattle.std.proofs.lemmas.List.{take_all}
 use Rattle.std.proofs.lemmas.Result.{err_from_is_err_and}
 use Rattle.cfs_dir.specs.declared.node.Node.{Node}
 use Rattle.cfs_image.specs.Checks.{damage_of}
-use Rattle.cfs_survey.specs.Changes.{tree_checks}
 use Rattle.cfs_survey.specs.Faults.{damage_in, reported}
-use Rattle.cfs_survey.specs.Places.{place_checks}
+use Rattle.cfs_survey.specs.Places.{place_checks, places_checks}
 use Rattle.cfs_survey.proofs.FirstFaults.{fails_taken, sound_taken}
 use Rattle.cfs_survey.proofs.tree_so_far.check_tree.Goals as goal
 
 pub returns-in_err-check_node : goal.returns-in_err-check_node
-unfolding tree_checks
+unfolding places_checks
 returns-in_err-check_node c =
     let each =
     λ (node : Node). place_checks (get_or c.args.places.now node.rec 0) c.args.nodes.now node in
@@ -30,7 +29,7 @@ loop-node-preserved c =
     (ap (λ node. damage_of (each node)) (sym c.node-item.is) ∙ sym c.in_ok-check_node.ensures)
 
 pub returns : goal.returns
-unfolding tree_checks
+unfolding places_checks
 returns c =
     let each =
     λ (node : Node). place_checks (get_or c.args.places.now node.rec 0) c.args.nodes.now node in
