@@ -81,7 +81,7 @@ pub journal-stands : (words : Words) (selector : Seen WordStep)
 journal-stands words selector tables records front at places low sound =
     checked-stands at (through_of words.selector) words.journal records places (omega (arith, low))
     (λ position within.
-      ap (λ ws. length ws) (sym (front.records.each position (omega (arith, within, places))
-      (words_of (seen_at records position)) (now_is_image (seen_at records position).history)))
-      ∙ front.sizes position within)
+    ap (λ ws. length ws) (sym (front.records.each position (omega (arith, within, places))
+    (words_of (seen_at records position)) (now_is_image (seen_at records position).history)))
+    ∙ front.sizes position within)
     (second_distinct (selector ∷ tables) records front.distinct) front.records sound

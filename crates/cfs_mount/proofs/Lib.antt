@@ -2,4 +2,3 @@ pub mod Distinct
 pub mod Fronts
 pub mod Standings
 pub mod Walking
-pub mod stored_tree

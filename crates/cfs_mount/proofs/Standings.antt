@@ -104,7 +104,7 @@ checked-stands at through journal seens places low long distinct hold sound = re
       subst (λ m. IsNext through (through + m + 1) (place through m) None image) (sym changes_few)
       (record {
         opened = λ same. absurd (walk_end 64 through journal (omega (arith, less, changes_few))
-        (ap (λ ws. gate_of ws) (sym held) ∙ same));
+            (ap (λ ws. gate_of ws) (sym held) ∙ same));
         shut = λ shut. spent_at n image (omega arith) (omega (arith, less, changes_few)) held;
       });
   spent = λ k above below image possible.

@@ -2,6 +2,6 @@
 //! after a crash, and of what a survey found on them.
 #![tactic(auto)]
 
-mod stored_tree;
+mod tree;
 
-pub use stored_tree::stored_tree;
+pub use tree::mounted_tree;

@@ -22,7 +22,7 @@ use std::alloc::Global;
 
 /// The tree that a survey found, on the selector, the two copies of its table and the 64 records
 /// that hold these words: no change is in doubt. No device is asked for a step.
-pub fn stored_tree<R: Region + Drop>(
+pub fn mounted_tree<R: Region + Drop>(
     alloc: Global,
     words: &StoreWords,
     found: Recovered,
