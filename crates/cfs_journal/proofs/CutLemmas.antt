@@ -7,7 +7,7 @@ use Rattle.std.proofs.lemmas.Option.{slice_get-get_or}
 use Rattle.cfs_dir.specs.declared.change.Change.{Change}
 use Rattle.cfs_pmem.specs.Images.{Seen, WordStep, AllImages, IsImage}
 use Rattle.cfs_pmem.specs.Objects.{seen_at}
-use Rattle.cfs_journal.specs.Records.{gate_of, record_words}
+use Rattle.cfs_journal.specs.Records.{Tells, gate_of}
 use Rattle.cfs_journal.specs.Standing.{place, IsNext, IsSpent, Standing}
 
 later-spent : (through t position : ℕ) (image : List ℕ) → through ≤ t → IsSpent through position image → IsSpent t position image
@@ -24,10 +24,13 @@ slice_get-drop (suc j) k (first ∷ changes) =
     slice_get-drop j k changes ∙ ap (λ (n : ℕ). slice_get (first ∷ changes) n) same
 
 -- a record that stood and whose number is passed is spent
-passed : (t position number : ℕ) (change : Change) (image : List ℕ) → image ≡ record_words number change → number ≤ t → (number - 1) % 64 ≡ position → IsSpent t position image
+passed : (t position number : ℕ) (change : Change) (image : List ℕ) → Tells number change image →
+    number ≤ t → (number - 1) % 64 ≡ position → IsSpent t position image
 passed t position number change image is low here =
-    let gate : gate_of image ≡ number = ap (λ (ws : List ℕ). gate_of ws) is in
-    record { low = omega (arith, gate, low); placed = λ some. ap (λ (g : ℕ). (g - 1) % 64) gate ∙ here }
+    record {
+      low = omega (arith, is.gate, low);
+      placed = λ some. ap (λ (g : ℕ). (g - 1) % 64) is.gate ∙ here;
+    }
 
 pub cut_down : {through : ℕ} {changes : List Change} {doubt : Option Change} {seens : List (Seen WordStep)} (t : ℕ) (d : Change) → Standing through changes doubt seens
     → through ≤ t → t ≤ through + length changes → t < 2 ^ 63 → Standing t (drop (t - through) changes) doubt seens
@@ -38,11 +41,11 @@ cut_down {through} {changes} {doubt} {seens} t d s from most low = record {
   room_for_doubt = λ some. omega (arith, shorter, s.room_for_doubt some);
   words = s.words;
   distinct = s.distinct;
-  told = λ k x is. s.told (j + k) x (sym (slice_get-drop j k changes) ∙ is);
   told_doubt = s.told_doubt;
   live = λ k x is.
       let same : t + k ≡ through + (j + k) = omega arith in
-      subst (λ n. AllImages (seen_at seens (n % 64)) (λ image. image ≡ record_words (n + 1) x)) (sym same) (s.live (j + k) x (sym (slice_get-drop j k changes) ∙ is));
+      subst (λ n. AllImages (seen_at seens (n % 64)) (Tells (n + 1) x)) (sym same)
+      (s.live (j + k) x (sym (slice_get-drop j k changes) ∙ is));
   next = λ less.
       let same : t + length (drop j changes) ≡ through + length changes = omega (arith, shorter) in
       subst (λ n. AllImages (seen_at seens (n % 64)) (IsNext t (n + 1) (n % 64) doubt)) (sym same) (next_later less (cases_lt (length changes) 64));
@@ -57,7 +60,8 @@ cut_down {through} {changes} {doubt} {seens} t d s from most low = record {
     shorter : length (drop j changes) ≡ length changes - j
     shorter = length-drop j changes
 
-    stands : (k : ℕ) → k < length changes → AllImages (seen_at seens (place through k)) (λ image. image ≡ record_words (through + k + 1) (get_or changes k d))
+    stands : (k : ℕ) → k < length changes →
+        AllImages (seen_at seens (place through k)) (Tells (through + k + 1) (get_or changes k d))
     stands k l = s.live k (get_or changes k d) (slice_get-get_or changes k d l)
 
     next_later : length (drop j changes) < 64 → (length changes < 64) ⊎ (64 ≤ length changes) → AllImages (seen_at seens (place through (length changes))) (IsNext t (through + length changes + 1) (place through (length changes)) doubt)
@@ -66,9 +70,9 @@ cut_down {through} {changes} {doubt} {seens} t d s from most low = record {
         let all : length changes ≡ 64 = omega (arith, full, s.few) in
         let cut : through < t = omega (arith, fewer, shorter, all, from) in
         let here : (through + 0) % 64 ≡ (through + length changes) % 64 = omega (arith, all) in
-        let first : image ≡ record_words (through + 0 + 1) (get_or changes 0 d) =
+        let first : Tells (through + 0 + 1) (get_or changes 0 d) image =
         stands 0 (omega (arith, all)) image (subst (λ p. IsImage (seen_at seens p).history image) (sym here) possible) in
-        let gate : gate_of image ≡ through + 0 + 1 = ap (λ (ws : List ℕ). gate_of ws) first in
+        let gate : gate_of image ≡ through + 0 + 1 = first.gate in
         record {
           opened = λ is. absurd (omega (arith, gate, is, all));
           shut = λ other. record {

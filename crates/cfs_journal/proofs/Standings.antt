@@ -18,11 +18,11 @@ use Rattle.cfs_pmem.specs.declared.trace.Asked.{Asked}
 use Rattle.cfs_pmem.proofs.AllMomentLemmas.{all_weaker}
 use Rattle.cfs_pmem.proofs.ImageLemmas.{now_is_image}
 use Rattle.cfs_pmem.proofs.ObjectLemmas.{one_of, seen_at-map, seen_at-set, map-see-set}
-use Rattle.cfs_journal.specs.Records.{gate_of, record_words, IsRecordFrom}
+use Rattle.cfs_journal.specs.Records.{IsRecordFrom, Tells, gate_of, record_words}
 use Rattle.cfs_journal.specs.Appends.{closing_ops}
 use Rattle.cfs_journal.specs.Journals.{faults_at}
 use Rattle.cfs_journal.specs.Standing.{place, AreBlank, Gives, IsNext, IsSpent, Standing}
-use Rattle.cfs_journal.proofs.Walks.{Held, gives}
+use Rattle.cfs_journal.proofs.Walks.{Held, gives, record_tells}
 
 -- ---- one image of each region
 
@@ -52,7 +52,6 @@ pub held_of : {through : ℕ} {changes : List Change} {doubt : Option Change} {s
     → (images : List (List ℕ)) → IsEachImage IsImage seens images → Held through changes doubt images
 held_of {through} {changes} {doubt} {seens} s images all = record {
   few = s.few;
-  told = s.told;
   told_doubt = s.told_doubt;
   live = λ k change is. s.live k change is (get_or images (place through k) []) (at (place through k) (omega arith));
   next = λ less. s.next less (get_or images (place through (length changes)) []) (at (place through (length changes)) (omega arith));
@@ -69,7 +68,6 @@ pub held_but : {through : ℕ} {changes : List Change} {old doubt : Option Chang
     → (images : List (List ℕ)) → IsImageBut IsImage P (place through (length changes)) seens images → Held through changes doubt images
 held_but {through} {changes} {old} {doubt} {seens} {P} s less told next images all = record {
   few = s.few;
-  told = s.told;
   told_doubt = told;
   live = λ k change is.
       let within : k < length changes = slice_get_within changes k change is in
@@ -111,11 +109,10 @@ renewed {through} {changes} {old} {doubt} {seens} new s less told words devices 
     | inr other ↦ ap (λ (x : Seen WordStep). length (words_of x)) (other_at seens at p new other) ∙ s.words p l
   ];
   distinct = subst AreDistinct (sym (devices_stay seens at new devices)) s.distinct;
-  told = s.told;
   told_doubt = told;
   live = λ k change is.
       let inside : k < length changes = slice_get_within changes k change is in
-      subst (λ x. AllImages x (λ image. image ≡ record_words (through + k + 1) change))
+      subst (λ x. AllImages x (Tells (through + k + 1) change))
       (sym (other_at seens at (place through k) new (λ same. omega (arith, same, inside, less)))) (s.live k change is);
   next = λ l. subst (λ x. AllImages x (IsNext through (through + length changes + 1) at doubt)) (sym (here_at seens at new within)) next;
   spent = λ k above below. subst (λ x. AllImages x (IsSpent through (place through k)))
@@ -270,20 +267,20 @@ grown {through} {changes} {seens} change new s less tellable words devices stand
     | inr other ↦ ap (λ (x : Seen WordStep). length (words_of x)) (other_at seens at p new other) ∙ s.words p l
   ];
   distinct = subst AreDistinct (sym (devices_stay seens at new devices)) s.distinct;
-  told = λ k x is. elim (cases_eq k (length changes)) [
-    | inl last ↦ subst IsTellable (sym (own k x last is)) tellable
-    | inr earlier ↦ s.told k x (before k x earlier is)
-  ];
   told_doubt = λ x is. cc;
   live = λ k x is. elim (cases_eq k (length changes)) [
     | inl last ↦
-        subst (λ j. AllImages (seen_at (set seens at new) (place through j)) (λ image. image ≡ record_words (through + j + 1) x)) (sym last)
-        (subst (λ y. AllImages y (λ image. image ≡ record_words (through + length changes + 1) x)) (sym (here_at seens at new within))
-        (λ image possible. stands image possible ∙ ap (λ (c : Change). record_words (through + length changes + 1) c) (sym (own k x last is))))
+        let same : x ≡ change = own k x last is in
+        let number : ℕ = through + length changes + 1 in
+        subst (λ j. AllImages (seen_at (set seens at new) (place through j))
+        (Tells (through + j + 1) x)) (sym last)
+        (subst (λ y. AllImages y (Tells number x)) (sym (here_at seens at new within))
+        (λ image possible. record_tells number x image (subst IsTellable (sym same) tellable)
+        (stands image possible ∙ ap (λ (c : Change). record_words number c) (sym same))))
     | inr earlier ↦
         let was : slice_get changes k ≡ Some x = before k x earlier is in
         let inside : k < length changes = slice_get_within changes k x was in
-        subst (λ y. AllImages y (λ image. image ≡ record_words (through + k + 1) x))
+        subst (λ y. AllImages y (Tells (through + k + 1) x))
         (sym (other_at seens at (place through k) new (λ same. omega (arith, same, inside, less)))) (s.live k x was)
   ];
   next = λ more.
@@ -386,7 +383,6 @@ blank_stands {seens} b = record {
   room_for_doubt = λ some. omega arith;
   words = λ p l. ap (λ (ws : List ℕ). length ws) (b.zero p l (words_of (seen_at seens p)) (now_is_image (seen_at seens p).history));
   distinct = b.distinct;
-  told = λ k change is. cc;
   told_doubt = λ change is. cc;
   live = λ k change is. cc;
   next = λ l image possible. blank_next 0 1 0 None image (b.zero 0 (omega arith) image possible) (omega arith);

@@ -11,20 +11,28 @@ use Rattle.cfs_dir.specs.declared.change.Change.{Change}
 use Rattle.cfs_dir.specs.declared.change.Change.TheVariants as removals
 use Rattle.cfs_dir.specs.Change.{IsTellable}
 use Rattle.cfs_dir.proofs.Told.{change_told}
-use Rattle.cfs_journal.specs.Records.{change_of, gate_of, record_words}
+use Rattle.cfs_journal.specs.Records.{Tells, change_of, gate_of, record_words}
 use Rattle.cfs_journal.specs.Standing.{place, walk, Gives, IsNext}
 
 -- What the images of the regions say of each record.
 pub record Held (through : ℕ) (changes : List Change) (doubt : Option Change) (images : List (List ℕ)) : Type 0 where
   pub few : length changes ≤ 64
-  pub told : (k : ℕ) (change : Change) → slice_get changes k ≡ Some change → IsTellable change
   pub told_doubt : (change : Change) → doubt ≡ Some change → IsTellable change
-  pub live : (k : ℕ) (change : Change) → slice_get changes k ≡ Some change → get_or images (place through k) [] ≡ record_words (through + k + 1) change
+  pub live : (k : ℕ) (change : Change) → slice_get changes k ≡ Some change →
+      Tells (through + k + 1) change (get_or images (place through k) [])
   pub next : length changes < 64 → IsNext through (through + length changes + 1) (place through (length changes)) doubt (get_or images (place through (length changes)) [])
   pub spent : (k : ℕ) → length changes < k → k < 64 → gate_of (get_or images (place through k) []) ≤ through
 
 record_told : (number : ℕ) (change : Change) → IsTellable change → change_of (record_words number change) ≡ change
 record_told number change told = change_told change told
+
+-- a record that stands whole tells its change
+pub record_tells : (number : ℕ) (change : Change) (words : List ℕ) → IsTellable change →
+    words ≡ record_words number change → Tells number change words
+record_tells number change words told is = record {
+  gate = ap (λ (ws : List ℕ). gate_of ws) is;
+  told = ap (λ (ws : List ℕ). change_of ws) is ∙ record_told number change told;
+}
 
 -- one step of a walk, and its end
 walk-goes : (n t : ℕ) (images : List (List ℕ)) → gate_of (get_or images (t % 64) []) ≡ suc t → walk (suc n) t images ≡ get_or images (t % 64) [] ∷ walk n (suc t) images
@@ -56,26 +64,30 @@ walk-live {through} {changes} {doubt} {images} held d (suc m) (suc n) j end few 
     let within : j < length changes = omega arith in
     let change : Change = get_or changes j d in
     let here : slice_get changes j ≡ Some change = slice_get-get_or changes j d within in
-    let stands : get_or images ((through + j) % 64) [] ≡ record_words (through + j + 1) change = held.live j change here in
-    let gate : gate_of (get_or images ((through + j) % 64) []) ≡ suc (through + j) = ap (λ (ws : List ℕ). gate_of ws) stands ∙ omega arith in
+    let image : List ℕ = get_or images ((through + j) % 64) [] in
+    let stands : Tells (through + j + 1) change image = held.live j change here in
+    let gate : gate_of image ≡ suc (through + j) = stands.gate ∙ omega arith in
     let next : suc (through + j) ≡ through + suc j = omega arith in
     let rest : List Change = map change_of (walk (n - m) (through + length changes) images) in
     let fuel : n - m ≡ suc n - suc m = omega arith in
     ap (λ (ws : List (List ℕ)). map change_of ws) (walk-goes n (through + j) images gate)
-    ∙ (ap (λ (ws : List ℕ). change_of ws ∷ map change_of (walk n (suc (through + j)) images)) stands
-    ∙ (ap (λ (c : Change). c ∷ map change_of (walk n (suc (through + j)) images)) (record_told (through + j + 1) change (held.told j change here))
+    ∙ (ap (λ (c : Change). c ∷ map change_of (walk n (suc (through + j)) images)) stands.told
     ∙ (ap (λ (t : ℕ). change ∷ map change_of (walk n t images)) next
     ∙ (ap (λ (cs : List Change). change ∷ cs) (walk-live held d m n (suc j) (omega arith) (omega arith))
     ∙ (ap (λ (cs : List Change). cs ++ rest) (sym (drop-cons changes j d within))
-    ∙ ap (λ (k : ℕ). drop j changes ++ map change_of (walk k (through + length changes) images)) fuel)))))
+    ∙ ap (λ (k : ℕ). drop j changes
+    ++ map change_of (walk k (through + length changes) images)) fuel))))
 
 -- behind all places stands the first record again
 wraps : {through : ℕ} {changes : List Change} {doubt : Option Change} {images : List (List ℕ)} → Held through changes doubt images → (d : Change) (n t : ℕ)
     → 0 < length changes → t ≡ through + 64 → walk n t images ≡ []
 wraps {through} {changes} {doubt} {images} held d n t some is =
-    let first : get_or images ((through + 0) % 64) [] ≡ record_words (through + 0 + 1) (get_or changes 0 d) = held.live 0 (get_or changes 0 d) (slice_get-get_or changes 0 d some) in
+    let first : Tells (through + 0 + 1) (get_or changes 0 d)
+    (get_or images ((through + 0) % 64) []) =
+    held.live 0 (get_or changes 0 d) (slice_get-get_or changes 0 d some) in
     let same : t % 64 ≡ (through + 0) % 64 = omega (arith, is) in
-    let gate : gate_of (get_or images (t % 64) []) ≡ through + 0 + 1 = ap (λ (p : ℕ). gate_of (get_or images p [])) same ∙ ap (λ (ws : List ℕ). gate_of ws) first in
+    let gate : gate_of (get_or images (t % 64) []) ≡ through + 0 + 1 =
+    ap (λ (p : ℕ). gate_of (get_or images p [])) same ∙ first.gate in
     walk-ends n t images (λ as_next. omega (arith, gate, as_next, is))
 
 -- what comes behind the changes: nothing, or the change in doubt

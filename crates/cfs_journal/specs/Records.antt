@@ -17,6 +17,11 @@ gate_of words = get_or words 0 0
 abbrev pub change_of : List ℕ → Change
 change_of words = change_in (drop 1 words)
 
+-- a record that tells this change under this number, whatever words it has that tell nothing
+pub record Tells (number : ℕ) (change : Change) (words : List ℕ) : Type 0 where
+  pub gate : gate_of words ≡ number
+  pub told : change_of words ≡ change
+
 -- the eighteen steps of a record, the newest first: words 1 to 15, a persist, the gate, a persist
 abbrev pub record_ops : ℕ → Change → List WordOp
 record_ops number change =

@@ -6,7 +6,7 @@ use Rattle.cfs_dir.specs.Change.{IsTellable}
 use Rattle.cfs_pmem.specs.AllMoments.{AreDistinct}
 use Rattle.cfs_pmem.specs.Images.{Seen, WordStep, words_of, AllImages}
 use Rattle.cfs_pmem.specs.Objects.{seen_at, all_devices}
-use Rattle.cfs_journal.specs.Records.{change_of, gate_of, record_words}
+use Rattle.cfs_journal.specs.Records.{Tells, change_of, gate_of, record_words}
 
 -- ---- what an image says
 
@@ -49,12 +49,10 @@ pub record Standing (through : ℕ) (changes : List Change) (doubt : Option Chan
   pub room_for_doubt : doubt ≢ None → length changes < 64
   pub words : (position : ℕ) → position < 64 → length (words_of (seen_at seens position)) ≡ 16
   pub distinct : AreDistinct (all_devices seens)
-  pub told : (k : ℕ) (change : Change) → slice_get changes k ≡ Some change → IsTellable change
   pub told_doubt : (change : Change) → doubt ≡ Some change → IsTellable change
-  -- the records of the changes stand whole in every image
+  -- the records of the changes tell them in every image
   pub live : (k : ℕ) (change : Change) → slice_get changes k ≡ Some change →
-      AllImages (seen_at seens (place through k))
-      (λ image. image ≡ record_words (through + k + 1) change)
+      AllImages (seen_at seens (place through k)) (Tells (through + k + 1) change)
   -- the next one is there only with the change in doubt
   pub next : length changes < 64 →
       AllImages (seen_at seens (place through (length changes)))

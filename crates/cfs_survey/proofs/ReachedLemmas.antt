@@ -1,5 +1,8 @@
 -- One record reached more.
-use Rattle.std.proofs.Common.{◌≡◌, ℕ, ◌+◌, ◌%◌, ◌<◌, List, [], length, get_or, take, sym, ◌∙◌, ap}
+use Rattle.std.proofs.Common.{◌≡◌, ℕ, ◌+◌, ◌%◌, ◌<◌, List, [], ◌∷◌, ◌++◌, length, get_or, map, take}
+use Rattle.std.proofs.Common.{sym, ◌∙◌, ap}
+use Rattle.std.proofs.lemmas.List.{map-append}
+use Rattle.std.proofs.lemmas.Grind.{take_at_read}
 use Rattle.cfs_dir.specs.Change.{changed}
 use Rattle.cfs_dir.specs.Namespace.{Namespace}
 use Rattle.cfs_journal.specs.Records.{change_of}
@@ -52,3 +55,16 @@ so_far_more at through table first journal k tree new places new_places below so
           (places_after at through first (take k (reached through journal)))) here
           ∙ sym (places_more at through first (reached through journal) k below);
     }
+
+-- the changes of the records reached, with one more
+pub told_more : (through : ℕ) (journal : List (List ℕ)) (k : ℕ) →
+    k < length (reached through journal) →
+    map change_of (take (k + 1) (reached through journal))
+    ≡ map change_of (take k (reached through journal))
+    ++ change_of (get_or journal ((through + k) % 64) []) ∷ []
+told_more through journal k below =
+    let records : List (List ℕ) = reached through journal in
+    ap (λ ws. map change_of ws) (take_at_read records k [] below).1
+    ∙ map-append change_of (take k records) (get_or records k [] ∷ [])
+    ∙ ap (λ w. map change_of (take k records) ++ change_of w ∷ [])
+    (walk_at 64 through journal k below)

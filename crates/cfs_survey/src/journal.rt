@@ -22,7 +22,7 @@ use crate::places::row_at;
 use crate::recovered::Recovered;
 use crate::refusal::SurveyRefusal;
 use crate::tree_so_far::TreeSoFar;
-use cfs_dir::{Node, RECORDS};
+use cfs_dir::{Change, Node, RECORDS};
 use cfs_journal::PLACES;
 use std::alloc::{AllocError, Global};
 
@@ -181,13 +181,13 @@ fn offset_of(at: u32, number: u64) -> u32
     record_at(at, (number % PLACES as u64) as u32)
 }
 
-/// Makes the change of that record.
+/// Makes the change of that record, and tells it.
 fn change_tree(
     tree: &mut TreeSoFar,
     at: u32,
     journal: &[[u64; RECORD_WORDS]],
     number: u64,
-) -> Result<(), SurveyRefusal>
+) -> Result<Change, SurveyRefusal>
     requires places { length journal.now ≡ 64 }
     requires low { at < 2 ^ 30 }
     ensures sound { OnOk result (damage_of (change_checks (record_at at (number % 64))
@@ -197,6 +197,8 @@ fn change_tree(
     ensures offsets { OnOk result (places_of tree.new ≡
         placed_by (record_at at (number % 64)) (get_or journal.now (number % 64) [])
         (places_of tree.old)) }
+    ensures told { IfOk result (λ change.
+        change ≡ change_of (get_or journal.now (number % 64) [])) }
     ensures named { IfErr result (Refuses (change_checks (record_at at (number % 64))
         (tree_of tree.old) (places_of tree.old) (get_or journal.now (number % 64) []))) }
 {
@@ -204,14 +206,15 @@ fn change_tree(
     tree.change(offset_of(at, number), &words)
 }
 
-/// Makes the changes of so many records behind a number, which are those reached.
+/// Makes the changes of so many records behind a number, which are those reached, and tells them.
 fn change_all(
+    alloc: Global,
     tree: &mut TreeSoFar,
     at: u32,
     journal: &[[u64; RECORD_WORDS]],
     through: u64,
     count: u64,
-) -> Result<(), SurveyRefusal>
+) -> Result<Vec<Change>, SurveyRefusal>
     requires places { length journal.now ≡ 64 }
     requires low { at < 2 ^ 30 }
     requires through { through < 2 ^ 63 }
@@ -221,13 +224,15 @@ fn change_all(
         (places_of tree.old) (reached through journal.now)) ≡ None) }
     ensures tree { OnOk result (tree_of tree.new ≡
         tree_after (tree_of tree.old) (reached through journal.now)) }
+    ensures told { IfOk result (λ changes. changes.items ≡ changes_above through journal.now) }
     ensures named { IfErr result (Refuses (changes_checks at through (tree_of tree.old)
         (places_of tree.old) (reached through journal.now))) }
 {
+    let mut changes = Vec::with_capacity(alloc, PLACES)?;
     for k in 0..count {
-        change_tree(tree, at, journal, through + k)?;
+        changes.push(change_tree(tree, at, journal, through + k)?)?;
     }
-    Ok(())
+    Ok(changes)
 }
 
 /// The tree after the records of the journal that are reached behind the number of a table.
@@ -256,6 +261,8 @@ pub fn read_journal(
     ensures tree { IfOk result (λ read. record { nodes = read.nodes.items; next = read.next } ≡
         changed_by (record { nodes = nodes.items; next = next })
         (changes_above through journal.now)) }
+    ensures changes { IfOk result (λ read. read.changes.items ≡
+        changes_above through journal.now) }
     ensures last { IfOk result (λ read. read.last ≡ last_reached through journal.now) }
     ensures named { IfErr result (Refuses (journal_checks table_at at through
         (record { nodes = nodes.items; next = next }) journal.now)) }
@@ -267,12 +274,13 @@ pub fn read_journal(
         next,
         places,
     };
-    change_all(&mut tree, at, journal, through, count)?;
+    let changes = change_all(alloc, &mut tree, at, journal, through, count)?;
     let last = through + count;
     check_gates(at, journal, last)?;
     Ok(Recovered {
         nodes: tree.nodes,
         next: tree.next,
+        changes,
         last,
     })
 }

@@ -1,4 +1,4 @@
-use cfs_dir::Node;
+use cfs_dir::{Change, Node};
 
 /// The tree that a table and a journal tell.
 #[derive(Debug, Drop)]
@@ -7,6 +7,8 @@ pub struct Recovered {
     pub nodes: Vec<Node>,
     /// The next inode number.
     pub next: u64,
+    /// The changes of the journal's records that were reached, in order.
+    pub changes: Vec<Change>,
     /// The number of the last record of the journal that was reached, or that of the table.
     pub last: u64,
 }

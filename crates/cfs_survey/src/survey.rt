@@ -3,6 +3,7 @@ ghost use Rattle.std.specs.Prelude.{All, ◌≡◌, ◌/◌, ◌<◌, ◌^◌, I
 ghost use Rattle.cfs_dir.specs.Tree.{IsTree};
 ghost use Rattle.cfs_image.specs.Checks.{damage_of};
 ghost use Rattle.cfs_image.specs.Layout.{block_at, slot_at};
+ghost use Rattle.cfs_journal.specs.Standing.{changes_above};
 ghost use Rattle.cfs_survey.specs.Journals.{last_reached};
 ghost use Rattle.cfs_survey.specs.Live.{in_order, live_entries};
 ghost use Rattle.cfs_survey.specs.Mapped.{IsBlockMap};
@@ -68,6 +69,8 @@ fn read_tree(alloc: Global, words: &StoreWords) -> Result<Recovered, SurveyRefus
     ensures stands { IfOk result (λ tree. IsTree tree.nodes.items tree.next) }
     ensures records { IfOk result (λ tree. All (λ node. node.rec < 256) tree.nodes.items) }
     ensures inos { IfOk result (λ tree. All (λ node. node.ino < 2 ^ 32) tree.nodes.items) }
+    ensures changes { IfOk result (λ tree. tree.changes.items ≡
+        changes_above (through_of words.now.selector) words.now.journal.items) }
     ensures last { IfOk result (λ tree. tree.last ≡
         last_reached (through_of words.now.selector) words.now.journal.items) }
     ensures named { IfErr result (Refuses (namespace_checks (words_of words.now))) }
@@ -143,6 +146,8 @@ pub fn survey_words(alloc: Global, words: &StoreWords) -> Result<Survey, SurveyR
     ensures tree { IfOk result (λ survey.
         found_tree survey.tree ≡ recovered_tree (words_of words.now)) }
     ensures stands { IfOk result (λ survey. IsTree survey.tree.nodes.items survey.tree.next) }
+    ensures changes { IfOk result (λ survey. survey.tree.changes.items ≡
+        changes_above (through_of words.now.selector) words.now.journal.items) }
     ensures last { IfOk result (λ survey. survey.tree.last ≡
         last_reached (through_of words.now.selector) words.now.journal.items) }
     ensures blocks { IfOk result (λ survey. IsBlockMap survey.tree.nodes.items

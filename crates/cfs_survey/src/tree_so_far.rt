@@ -1,5 +1,6 @@
 //! A tree, record by record of the journal.
-ghost use Rattle.std.specs.Prelude.{◌≡◌, ◌<◌, ◌≤◌, ◌^◌, None, IfErr, OnOk, length, nat_lt, not};
+ghost use Rattle.std.specs.Prelude.{◌≡◌, ◌<◌, ◌≤◌, ◌^◌, None, IfErr, IfOk, OnOk, length, nat_lt};
+ghost use Rattle.std.specs.Prelude.{not};
 ghost use Rattle.std.specs.Prelude.{position};
 ghost use Rattle.std.proofs.Math.ListN.{get_or, set};
 ghost use Rattle.cfs_dir.specs.Change.{changed, without_replaced};
@@ -9,8 +10,8 @@ ghost use Rattle.cfs_image.specs.Checks.{damage_of};
 ghost use Rattle.std.specs.List.{position_or_len};
 ghost use Rattle.cfs_journal.specs.Records.{change_of};
 ghost use Rattle.cfs_survey.specs.Changes.{change_checks, create_checks, move_checks};
-ghost use Rattle.cfs_survey.specs.Changes.{moving_checks, operation_of, placed_by, remove_checks};
-ghost use Rattle.cfs_survey.specs.Changes.{tree_checks};
+ghost use Rattle.cfs_survey.specs.Changes.{last_of, moving_checks, node_told, number_of};
+ghost use Rattle.cfs_survey.specs.Changes.{operation_of, placed_by, remove_checks, tree_checks};
 ghost use Rattle.cfs_survey.specs.Faults.{reported};
 ghost use Rattle.cfs_survey.specs.Places.{place_checks};
 ghost use Rattle.cfs_survey.specs.Refusals.{Refuses};
@@ -19,7 +20,7 @@ use crate::changes::{RECORD_WORDS, read_created, read_moved, read_removed};
 use crate::fault::Fault;
 use crate::places::check_place;
 use crate::refusal::SurveyRefusal;
-use cfs_dir::Node;
+use cfs_dir::{Change, Node};
 use std::alloc::AllocFailed;
 
 /// A tree as far as its changes have been read, and where the words of its nodes are.
@@ -74,6 +75,48 @@ fn drop_replaced(nodes: &mut Vec<Node>, last: u64)
     }
 }
 
+/// The record that a last word names, if it is not 0.
+fn replaced_in(last: u64) -> Option<u32>
+    requires { last ≤ 256 }
+    ensures { result ≡ replaced_in last }
+{
+    match last {
+        0 => None,
+        _ => Some(last as u32 - 1),
+    }
+}
+
+/// The change of a record that makes this node.
+fn creation(words: &[u64; RECORD_WORDS], node: &Node) -> Change
+    requires operation { operation_of words.now ≡ 1 }
+    requires node { node.now ≡ node_told words.now }
+    ensures { result ≡ change_of words.now }
+{
+    Change::Create(*node)
+}
+
+/// The change of a record that removes the node of the record `rec`.
+fn removal(words: &[u64; RECORD_WORDS], rec: u32) -> Change
+    requires operation { operation_of words.now ≡ 2 }
+    requires number { rec ≡ number_of words.now }
+    ensures { result ≡ change_of words.now }
+{
+    Change::Remove { rec, ino: words[3] }
+}
+
+/// The change of a record that moves a node, which will stand so.
+fn relocation(words: &[u64; RECORD_WORDS], node: &Node) -> Change
+    requires operation { operation_of words.now ≡ 3 }
+    requires node { node.now ≡ node_told words.now }
+    requires last { last_of words.now ≤ 256 }
+    ensures { result ≡ change_of words.now }
+{
+    Change::Move {
+        node: *node,
+        replaced: replaced_in(words[15]),
+    }
+}
+
 /// Notes where the words of a record's node begin.
 fn set_place(places: &mut [u32], rec: u32, at: u32)
     ensures { places.new ≡ set places.old rec at }
@@ -116,7 +159,7 @@ impl TreeSoFar {
     ghost use Rattle.cfs_survey.specs.SoFar.{tree_of, places_of};
 
     /// Makes the node of a record, whose words stand at this offset.
-    fn create(&mut self, at: u32, words: &[u64; RECORD_WORDS]) -> Result<(), SurveyRefusal>
+    fn create(&mut self, at: u32, words: &[u64; RECORD_WORDS]) -> Result<Change, SurveyRefusal>
         requires low { at < 2 ^ 31 }
         requires operation { operation_of words.now ≡ 1 }
         ensures sound { OnOk result
@@ -125,17 +168,19 @@ impl TreeSoFar {
             (tree_of self.new ≡ changed (tree_of self.old) (change_of words.now)) }
         ensures places { OnOk result
             (places_of self.new ≡ placed_by at words.now (places_of self.old)) }
+        ensures told { IfOk result (λ change. change ≡ change_of words.now) }
         ensures named { IfErr result (Refuses (create_checks at (tree_of self.old) words.now)) }
     {
         let node = read_created(u64::from(at), self.next, &self.nodes, words)?;
+        let change = creation(words, &node);
         self.next = node.ino + 1;
         set_place(&mut self.places, node.rec, at + 24);
         put_node(&mut self.nodes, node)?;
-        Ok(())
+        Ok(change)
     }
 
     /// Removes the node of a record, whose words stand at this offset.
-    fn remove(&mut self, at: u32, words: &[u64; RECORD_WORDS]) -> Result<(), Fault>
+    fn remove(&mut self, at: u32, words: &[u64; RECORD_WORDS]) -> Result<Change, Fault>
         requires low { at < 2 ^ 31 }
         requires operation { operation_of words.now ≡ 2 }
         ensures named { reported result ≡
@@ -144,14 +189,15 @@ impl TreeSoFar {
             (tree_of self.new ≡ changed (tree_of self.old) (change_of words.now)) }
         ensures places { OnOk result
             (places_of self.new ≡ placed_by at words.now (places_of self.old)) }
+        ensures told { IfOk result (λ change. change ≡ change_of words.now) }
     {
         let held = read_removed(u64::from(at), &self.nodes, words)?;
         drop_node(&mut self.nodes, held.rec);
-        Ok(())
+        Ok(removal(words, held.rec))
     }
 
     /// Moves the node of a record, whose words stand at this offset.
-    fn relocate(&mut self, at: u32, words: &[u64; RECORD_WORDS]) -> Result<(), SurveyRefusal>
+    fn relocate(&mut self, at: u32, words: &[u64; RECORD_WORDS]) -> Result<Change, SurveyRefusal>
         requires low { at < 2 ^ 31 }
         requires operation { operation_of words.now ≡ 3 }
         ensures sound { OnOk result
@@ -160,14 +206,16 @@ impl TreeSoFar {
             (tree_of self.new ≡ changed (tree_of self.old) (change_of words.now)) }
         ensures places { OnOk result
             (places_of self.new ≡ placed_by at words.now (places_of self.old)) }
+        ensures told { IfOk result (λ change. change ≡ change_of words.now) }
         ensures named { IfErr result (Refuses (move_checks at (tree_of self.old).nodes words.now)) }
     {
         let node = read_moved(u64::from(at), &self.nodes, words)?;
+        let change = relocation(words, &node);
         drop_replaced(&mut self.nodes, words[15]);
         drop_node(&mut self.nodes, node.rec);
         set_place(&mut self.places, node.rec, at + 24);
         put_node(&mut self.nodes, node)?;
-        Ok(())
+        Ok(change)
     }
 
     /// Checks where each node stands.
@@ -183,7 +231,7 @@ impl TreeSoFar {
         &mut self,
         at: u32,
         words: &[u64; RECORD_WORDS],
-    ) -> Result<(), SurveyRefusal>
+    ) -> Result<Change, SurveyRefusal>
         requires low { at < 2 ^ 31 }
         requires operation { operation_of words.now ≡ 3 }
         ensures sound { OnOk result
@@ -193,22 +241,24 @@ impl TreeSoFar {
             (tree_of self.new ≡ changed (tree_of self.old) (change_of words.now)) }
         ensures places { OnOk result
             (places_of self.new ≡ placed_by at words.now (places_of self.old)) }
+        ensures told { IfOk result (λ change. change ≡ change_of words.now) }
         ensures named { IfErr result
             (Refuses (moving_checks at (tree_of self.old) (places_of self.old) words.now)) }
     {
-        self.relocate(at, words)?;
+        let change = self.relocate(at, words)?;
         self.check()?;
-        Ok(())
+        Ok(change)
     }
 
-    /// Makes the change of a record, whose words stand at this offset of the image, below 2^31.
+    /// Makes the change of a record, whose words stand at this offset of the image, below 2^31, and
+    /// tells it.
     ///
     /// After a refusal the tree may be any.
     pub(crate) fn change(
         &mut self,
         at: u32,
         words: &[u64; RECORD_WORDS],
-    ) -> Result<(), SurveyRefusal>
+    ) -> Result<Change, SurveyRefusal>
         requires low { at < 2 ^ 31 }
         ensures sound { OnOk result
             (damage_of (change_checks at (tree_of self.old) (places_of self.old) words.now) ≡
@@ -217,6 +267,7 @@ impl TreeSoFar {
             (tree_of self.new ≡ changed (tree_of self.old) (change_of words.now)) }
         ensures places { OnOk result
             (places_of self.new ≡ placed_by at words.now (places_of self.old)) }
+        ensures told { IfOk result (λ change. change ≡ change_of words.now) }
         ensures named { IfErr result
             (Refuses (change_checks at (tree_of self.old) (places_of self.old) words.now)) }
     {

@@ -1,6 +1,7 @@
-use Rattle.std.proofs.Common.{◌≡◌}
+use Rattle.std.proofs.Common.{◌≡◌, map, take}
 use Rattle.std.specs.Prelude.{None}
 use Rattle.cfs_image.specs.Checks.{damage_of}
+use Rattle.cfs_journal.specs.Records.{change_of}
 use Rattle.cfs_survey.specs.Faults.{checks_from}
 use Rattle.cfs_survey.specs.Journals.{reached, reached_checks}
 use Rattle.cfs_survey.specs.SoFar.{places_of, tree_of}
@@ -15,4 +16,5 @@ invariant-loop-k l = record {
       (reached l.through l.journal)) 0 l.k) ≡ None;
   so_far : IsSoFar l.at l.through (tree_of l.initial.tree) (places_of l.initial.tree) l.journal l.k
       (tree_of l.tree) (places_of l.tree);
+  told : l.changes.items ≡ map change_of (take l.k (reached l.through l.journal));
 }

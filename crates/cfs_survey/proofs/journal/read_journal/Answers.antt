@@ -10,9 +10,9 @@ use Rattle.cfs_survey.proofs.FirstFaults.{behind_sound}
 use Rattle.cfs_survey.proofs.RefusalLemmas.{refused_before, refused_with}
 use Rattle.cfs_survey.proofs.journal.read_journal.Goals as goal
 
-pub returns-in_err-change_all-clause-named : goal.returns-in_err-change_all-clause-named
-returns-in_err-change_all-clause-named c =
-    let r = c.from_residual-in_err-change_all in
+pub returns-in_err-changes-clause-named : goal.returns-in_err-changes-clause-named
+returns-in_err-changes-clause-named c =
+    let r = c.from_residual-in_err-changes in
     let p = err_from_is_err_and r.result r.ensures.1 in
     let table : Namespace = record { nodes = c.args.nodes.items; next = c.args.next } in
     let through_reached : List (List ℕ) = reached c.args.through c.args.journal.now in
@@ -22,12 +22,12 @@ returns-in_err-change_all-clause-named c =
     let gates : List Check =
     gates_checks c.args.at c.args.journal.now
     (last_reached c.args.through c.args.journal.now) in
-    let refusal = c.in_err-change_all.field-0.0 in
+    let refusal = c.in_err-changes.field-0.0 in
     refused_with r.result (changes ++ gates) p.0 refusal p.1 p.2
     (refused_before changes gates refusal
     (subst (λ (places : List ℕ). Refuses
     (changes_checks c.args.at c.args.through table places through_reached) refusal)
-    c.in_ok-places.ensures c.in_err-change_all.ensures.named))
+    c.in_ok-places.ensures c.in_err-changes.ensures.named))
 
 pub returns-in_err-check_gates-clause-named : goal.returns-in_err-check_gates-clause-named
 returns-in_err-check_gates-clause-named c =
@@ -45,7 +45,7 @@ returns-in_err-check_gates-clause-named c =
     (behind_sound changes gates
     (subst (λ (places : List ℕ). damage_of
     (changes_checks c.args.at c.args.through table places through_reached) ≡ _)
-    c.in_ok-places.ensures c.in_ok-change_all.ensures.sound)
+    c.in_ok-places.ensures c.in_ok-changes.ensures.sound)
     ∙ ap (λ n. damage_of (gates_checks c.args.at c.args.journal.now (c.args.through + n)))
     (sym c.count_reached-count.ensures.count)
     ∙ sym c.in_err-check_gates.ensures)
@@ -63,7 +63,7 @@ returns-clause-sound c =
     behind_sound changes gates
     (subst (λ (places : List ℕ). damage_of
     (changes_checks c.args.at c.args.through table places through_reached) ≡ _)
-    c.in_ok-places.ensures c.in_ok-change_all.ensures.sound)
+    c.in_ok-places.ensures c.in_ok-changes.ensures.sound)
     ∙ ap (λ n. damage_of (gates_checks c.args.at c.args.journal.now (c.args.through + n)))
     (sym c.count_reached-count.ensures.count)
     ∙ sym c.in_ok-check_gates.ensures

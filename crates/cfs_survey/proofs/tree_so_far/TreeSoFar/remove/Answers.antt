@@ -9,3 +9,8 @@ returns-clause-tree c =
     c.in_ok-held.held.rec c.requires.operation
     (found_rec c.deref.result.now (number_of c.args.words.now) c.in_ok-held.held
     c.in_ok-held.ensures.node) c.drop_node.ensures
+
+pub removal-requires-clause-number : goal.removal-requires-clause-number
+removal-requires-clause-number c =
+    found_rec c.deref.result.now (number_of c.args.words.now) c.in_ok-held.held
+    c.in_ok-held.ensures.node

@@ -1,0 +1,4 @@
+pub mod Distinct
+pub mod Fronts
+pub mod Standings
+pub mod Walking

@@ -1,0 +1,7 @@
+//! The parts of a mounted store, made of its devices as they are after an image was loaded, or
+//! after a crash, and of what a survey found on them.
+#![tactic(auto)]
+
+mod tree;
+
+pub use tree::mounted_tree;
