@@ -1,5 +1,5 @@
 -- How calls of the program end.
-use Rattle.std.proofs.Common.{◌≡◌, ◌⊎◌, ◌≤◌, length, inl, inr, ℕ, Some, None, List, []}
+use Rattle.std.proofs.Common.{◌≡◌, ◌∙◌, ◌⊎◌, ◌≤◌, length, inl, inr, ℕ, Some, None, List, []}
 use Rattle.std.proofs.Common.{refl, subst, sym, true}
 use Rattle.std.specs.declared.option.Option.{Option}
 use Rattle.std.specs.Io.KnownBytes.{Consumes, IsAtEnd}
@@ -16,13 +16,15 @@ use Rattle.cfs_top.specs.declared.out_line.OutLine.{OutLine}
 use Rattle.cfs_top.specs.declared.status.Status.{Status}
 use Rattle.cfs_top.specs.declared.status.Status.TheVariants.{Done, Usage, Script, Image, Input}
 use Rattle.cfs_top.specs.declared.status.Status.TheVariants.{Output, Shelf, NoMemory, Absent}
-use Rattle.cfs_top.specs.Command.{IsMkfs, IsUpgrade}
-use Rattle.cfs_top.specs.Outside.{ArePlay, Ends, IsDue, IsHeeded}
-use Rattle.cfs_top.specs.Outside.{LeavesShelf, Makes, PlayIsDue}
-use Rattle.cfs_top.specs.Outside.{SaveNone, Says, Shelved, UpgradeIsDue, Upgrades, Writes}
+use Rattle.cfs_image.specs.declared.refusal.ImageRefusal.{ImageRefusal}
+use Rattle.cfs_image.specs.declared.refusal.ImageRefusal.TheVariants as refusals
+use Rattle.cfs_top.specs.Command.{IsCheck, IsMkfs, IsUpgrade}
+use Rattle.cfs_top.specs.Outside.{ArePlay, CheckIsDue, Ends, IsDue, IsHeeded}
+use Rattle.cfs_top.specs.Outside.{LeavesShelf, Loads, Makes, MaySay, PlayIsDue}
+use Rattle.cfs_top.specs.Outside.{SaveNone, Says, SaysWhy, Shelved, UpgradeIsDue, Upgrades, Writes}
 use Rattle.cfs_top.specs.Outside.{WritesAll, WritesFront}
 use Rattle.cfs_top.specs.Play.{PlaysAll, PlaysFront, Run}
-use Rattle.cfs_top.specs.Text.{texts}
+use Rattle.cfs_top.specs.Text.{damaged_text, texts}
 use Rattle.cfs_top.proofs.Orders.{KeepsOrder-run}
 use Rattle.cfs_top.proofs.Runs.{Appends-none}
 
@@ -216,7 +218,8 @@ upgrade_leaves Script words image name old new is made = absurd made
 upgrade_leaves Image words image name old new is made = made
 upgrade_leaves Input words image name old new is made = absurd made
 upgrade_leaves Output words image name old new is made = made
-upgrade_leaves Shelf words image name old new is (inl load) = inl ((image, (name, is)), load)
+upgrade_leaves Shelf words image name old new is (inl load) =
+    inl (inl (image, (name, is)), load)
 upgrade_leaves Shelf words image name old new is (inr save) =
     inr (record {
       name = name;
@@ -265,27 +268,58 @@ usage_shelf same = cc
 pub output_shelf : Output ≡ Shelf → ⊥
 output_shelf same = cc
 
--- ---- what `upgrade` says of an image that it refuses
+-- what became of the shelf by `check` is what became of it by the call
+check_leaves : (status : Status) (words : List (List ℕ)) (image : List ℕ) (old new : Shelved) →
+    IsCheck words image → SaveNone words → Loads status old new → LeavesShelf status words old new
+check_leaves Done words image old new is none made = inr (none, made)
+check_leaves Usage words image old new is none made = absurd made
+check_leaves Script words image old new is none made = absurd made
+check_leaves Image words image old new is none made = made
+check_leaves Input words image old new is none made = absurd made
+check_leaves Output words image old new is none made = made
+check_leaves Shelf words image old new is none made = inl (inr (image, is), made)
+check_leaves NoMemory words image old new is none made = made
+check_leaves Absent words image old new is none made = made
 
--- the line of a damage was written, or a front of it, or memory lacked
-abbrev pub Refuses : Status → List ℕ → Option (List ℕ) → Option (List ℕ) → Type 0
-Refuses result text before after =
-    ((result ≡ NoMemory) × (after ≡ before)) ⊎ Says result Image text before after
+-- a call that told what an image holds, or what is wrong with it, ended so
+pub check_ends : (status : Status) (words : List (List ℕ)) (image : List ℕ)
+    (left before after : Option (List ℕ)) (old new : Shelved) →
+    IsCheck words image → SaveNone words →
+    Writes (CheckIsDue old.files image) status before after → Loads status old new →
+    Ends status words (record { left = left; written = before; shelf = old })
+    (record { left = left; written = after; shelf = new })
+check_ends status words image left before after old new is none w made = record {
+  writes =
+      writes_weaker (CheckIsDue old.files image) (IsDue words old.files left left) status before
+      after
+      (λ s text due. inr (inr (inr (inl (image, (is, due)))))) w;
+  asked = λ input. absurd (subst (λ s. Loads s old new) input made);
+  came = ([], Consumes-none left);
+  unread = λ none. refl;
+  shelf = check_leaves status words image old new is none made;
+}
 
-pub refused_writes : (due : Status → List ℕ → Type 0) (result : Status) (text : List ℕ)
-    (before after : Option (List ℕ)) →
-    due Image text → Refuses result text before after → Writes due result before after
-refused_writes due result text before after is_due (inl none) =
+-- a text for which memory may lack
+pub may_say_writes : (due : Status → List ℕ → Type 0) (result status : Status) (text : List ℕ)
+    (before mid after : Option (List ℕ)) → mid ≡ before → IsHeeded status → due status text →
+    MaySay result status text mid after → Writes due result before after
+may_say_writes due result status text before mid after same heeded is_due (inl none) =
     let P : Status → Type 0 = λ s. Writes due s before after in
-    subst P (sym none.0) (inl none.1)
-refused_writes due result text before after is_due (inr said) =
-    said_writes due result Image text before after tt is_due said
+    subst P (sym none.0) (inl (none.1 ∙ same))
+may_say_writes due result status text before mid after same heeded is_due (inr said) =
+    subst (λ from. Writes due result from after) same
+    (said_writes due result status text mid after heeded is_due said)
 
-pub said_upgrades : (result status : Status) (text : List ℕ) (before after : Option (List ℕ))
-    (image name : List ℕ) (old new : Shelved) →
-    Upgrades status image name old new → new.files ≡ old.files →
-    Says result status text before after → Upgrades result image name old new
-said_upgrades result status text before after image name old new made same (inl all) =
-    subst (λ s. Upgrades s image name old new) (sym all.0) made
-said_upgrades result status text before after image name old new made same (inr front) =
-    subst (λ s. Upgrades s image name old new) (sym front.0) same
+-- a refusal, where the line of the damage that it names is due
+pub refused_writes : (due : Status → List ℕ → Type 0) (refusal : ImageRefusal) (result : Status)
+    (before mid after : Option (List ℕ)) → mid ≡ before →
+    ((offset found against : ℕ) → refusal ≡ refusals.Damaged offset found against →
+    due Image (damaged_text record { offset = offset; found = found; against = against })) →
+    SaysWhy refusal result mid after → Writes due result before after
+refused_writes due (refusals.Damaged offset found against) result before mid after same is_due
+    said =
+    may_say_writes due result Image
+    (damaged_text record { offset = offset; found = found; against = against }) before mid after
+    same tt (is_due offset found against refl) said
+refused_writes due refusals.NoMemory result before mid after same is_due said =
+    subst (λ s. Writes due s before after) (sym said.0) (inl (said.1 ∙ same))

@@ -2,3 +2,4 @@ pub mod Ends
 pub mod Orders
 pub mod Runs
 pub mod Words
+pub mod Upgrading

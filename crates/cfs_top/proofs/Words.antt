@@ -6,24 +6,34 @@ use Rattle.std.specs.Prelude.{codes}
 use Rattle.std.specs.Fmt.{decimal}
 use Rattle.std.specs.Str.{bytes_eq}
 use Rattle.cfs_image.specs.declared.layout.TheConstants.{FEWEST_BLOCKS, FEWEST_QUEUES, MOST_BLOCKS, MOST_QUEUES}
-use Rattle.cfs_top.specs.Command.{IsMkfs, IsPlay, IsUpgrade, is_mkfs, is_play, is_upgrade}
+use Rattle.cfs_top.specs.Command.{IsCheck, IsMkfs, IsPlay, IsUpgrade}
+use Rattle.cfs_top.specs.Command.{is_check, is_mkfs, is_play, is_upgrade}
 use Rattle.cfs_top.specs.Command.{is_image_name}
 
 -- three words, of which two are known
+three_words : (words : List (List ℕ)) (name command image : List ℕ) → length words ≡ 3 →
+    command ≡ get_or words 1 command → image ≡ get_or words 2 image → bytes_eq command name ≡ true →
+    (program : List ℕ) × (words ≡ program ∷ name ∷ image ∷ [])
+three_words [] name command image long second third is = cc
+three_words (a ∷ []) name command image long second third is = absurd (omega arith)
+three_words (a ∷ b ∷ []) name command image long second third is = absurd (omega arith)
+three_words (a ∷ b ∷ c ∷ []) name command image long second third is =
+    let named : command ≡ name = (bytes_eq-Decides command name).0 is in (a, cc)
+three_words (a ∷ b ∷ c ∷ d ∷ rest) name command image long second third is = absurd (omega arith)
+
+pub IsCheck-three : (words : List (List ℕ)) (command image : List ℕ) → length words ≡ 3 →
+    command ≡ get_or words 1 command → image ≡ get_or words 2 image →
+    is_check command ≡ true → is_image_name image ≡ true → IsCheck words image
+IsCheck-three words command image long second third is name =
+    let found = three_words words (codes "check") command image long second third is in
+    record { program = found.0; are = found.1; name = name }
+
 pub IsPlay-three : (words : List (List ℕ)) (command image : List ℕ) → length words ≡ 3 →
     command ≡ get_or words 1 command → image ≡ get_or words 2 image →
     is_play command ≡ true → is_image_name image ≡ true → IsPlay words image
-IsPlay-three [] command image long second third is name = cc
-IsPlay-three (a ∷ []) command image long second third is name = absurd (omega arith)
-IsPlay-three (a ∷ b ∷ []) command image long second third is name = absurd (omega arith)
-IsPlay-three (a ∷ b ∷ c ∷ []) command image long second third is name =
-    let named : command ≡ codes "play" = (bytes_eq-Decides command (codes "play")).0 is in
-    record {
-      program = a;
-      are = cc;
-      name = name;
-    }
-IsPlay-three (a ∷ b ∷ c ∷ d ∷ rest) command image long second third is name = absurd (omega arith)
+IsPlay-three words command image long second third is name =
+    let found = three_words words (codes "play") command image long second third is in
+    record { program = found.0; are = found.1; name = name }
 
 -- five words, of which four are known
 pub IsMkfs-five : (words : List (List ℕ)) (command image first second : List ℕ) (blocks queues : ℕ) → length words ≡ 5 →

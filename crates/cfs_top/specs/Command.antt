@@ -51,3 +51,12 @@ pub record IsUpgrade (words : List (List ℕ)) (image new : List ℕ) : Type 0 w
   pub name : IsTrue (is_image_name image)
   pub new_name : IsTrue (is_image_name new)
   pub another : new ≢ image
+
+abbrev pub is_check : List ℕ → Bool
+is_check word = bytes_eq word (codes "check")
+
+-- the words are the program's name, `check` and an image's name
+pub record IsCheck (words : List (List ℕ)) (image : List ℕ) : Type 0 where
+  pub program : List ℕ
+  pub are : words ≡ program ∷ codes "check" ∷ image ∷ []
+  pub name : IsTrue (is_image_name image)

@@ -1,14 +1,17 @@
 -- How a call of the program ends: after which words and input, with which status and output.
-use Rattle.std.specs.Prelude.{◌≡◌, ◌⊎◌, ◌≤◌, ℕ, List, [], length, IsTrue, IsFalse, Some}
+use Rattle.std.specs.Prelude.{◌≡◌, ◌⊎◌, ◌≤◌, ℕ, List, [], ◌++◌, length, IsTrue, IsFalse, Some, None}
 use Rattle.std.specs.declared.option.Option.{Option}
 use Rattle.std.specs.Io.KnownBytes.{Appends, Consumes, IsAtEnd}
 use Rattle.cfs_file.specs.declared.entry.Entry.{Entry}
 use Rattle.cfs_io.specs.declared.script.TheConstants.{LONGEST_SCRIPT}
 use Rattle.cfs_pmem.specs.Faults.{Rose}
+use Rattle.cfs_fsck.specs.Images.{image_checks, image_words}
+use Rattle.cfs_fsck.specs.Reports.{report_of}
+use Rattle.cfs_image.specs.declared.refusal.ImageRefusal.{ImageRefusal}
+use Rattle.cfs_image.specs.declared.refusal.ImageRefusal.TheVariants as refusals
 use Rattle.cfs_image.specs.declared.version.Version.TheVariants.{First}
-use Rattle.cfs_image.specs.Checks.{Damage, checks_of, damage_of}
+use Rattle.cfs_image.specs.Checks.{Check, Damage, checks_of, damage_of}
 use Rattle.cfs_image.specs.Fresh.{new_image_of}
-use Rattle.cfs_move.specs.Refusals.{IsOldSound}
 use Rattle.cfs_move.specs.Upgraded.{upgraded}
 use Rattle.cfs_io.specs.Files.{Files, Finds, Misses, OthersKept, Saved}
 use Rattle.cfs_io.specs.Streams.{AppendsFront, MoreCame, SomeCame}
@@ -19,11 +22,12 @@ use Rattle.cfs_top.specs.declared.out_line.OutLine.{OutLine}
 use Rattle.cfs_top.specs.declared.status.Status.{Status}
 use Rattle.cfs_top.specs.declared.status.Status.TheVariants.{Done, Usage, Script, Image, Input}
 use Rattle.cfs_top.specs.declared.status.Status.TheVariants.{Output, Shelf, NoMemory, Absent}
-use Rattle.cfs_top.specs.Command.{IsMkfs, IsPlay, IsUpgrade}
+use Rattle.cfs_top.specs.Command.{IsCheck, IsMkfs, IsPlay, IsUpgrade}
 use Rattle.cfs_top.specs.Order.{KeepsOrder}
 use Rattle.cfs_top.specs.Play.{Run}
 use Rattle.cfs_top.specs.Stage.{are_served}
-use Rattle.cfs_top.specs.Text.{absent_text, damaged_text, refused_text, texts, usage_text}
+use Rattle.cfs_top.specs.Text.{absent_text, damaged_text, refused_text, report_text, texts}
+use Rattle.cfs_top.specs.Text.{usage_text}
 
 -- what is told of a shelf at one moment: its files, and how many loads and saves have met a fault
 pub record Shelved : Type 0 where
@@ -82,25 +86,49 @@ PlayIsDue left rest Done text = PlaysScript left rest text
 PlayIsDue left rest Script text = IsRefused left rest × (text ≡ refused_text)
 PlayIsDue left rest other text = ⊥
 
--- there is a file of this name, an image of version 1 that passes its checks
-pub record IsOldImage (files : Option Files) (image bytes : List ℕ) : Type 0 where
-  pub found : Finds files image bytes
-  pub sound : IsOldSound bytes
+-- what is due where an image can't be loaded
+abbrev pub LoadIsDue : Option Files → List ℕ → Status → List ℕ → Type 0
+LoadIsDue files image Absent text = Misses files image × (text ≡ absent_text)
+LoadIsDue files image other text = ⊥
 
--- there is a file of this name, and the text says which check of version 1 is the first that fails
-pub record IsDamaged (files : Option Files) (image text : List ℕ) : Type 0 where
+-- there is a file of this name, and the text says which of these checks of it is the first that
+-- fails
+pub record IsDamaged (checks : List ℕ → List Check) (files : Option Files)
+    (image text : List ℕ) : Type 0 where
   pub bytes : List ℕ
   pub found : Finds files image bytes
   pub damage : Damage
-  pub first : damage_of (checks_of First bytes) ≡ Some damage
+  pub first : damage_of (checks bytes) ≡ Some damage
   pub is_text : text ≡ damaged_text damage
+
+-- the checks of an image of version 1: those of its length and header, and then all of the image
+-- that it becomes
+unfoldable pub upgrade_checks : List ℕ → List Check
+upgrade_checks bytes = checks_of First bytes ++ image_checks (upgraded bytes)
+
+-- there is a file of this name, an image of version 1 that passes its checks
+pub record IsOldImage (files : Option Files) (image bytes : List ℕ) : Type 0 where
+  pub found : Finds files image bytes
+  pub sound : damage_of (upgrade_checks bytes) ≡ None
 
 -- the status that `upgrade` of an image is to end with, and the text that it is to write
 abbrev pub UpgradeIsDue : Option Files → List ℕ → Status → List ℕ → Type 0
 UpgradeIsDue files image Done text = ((bytes : List ℕ) × IsOldImage files image bytes) × (text ≡ [])
-UpgradeIsDue files image Image text = IsDamaged files image text
-UpgradeIsDue files image Absent text = Misses files image × (text ≡ absent_text)
-UpgradeIsDue files image other text = ⊥
+UpgradeIsDue files image Image text = IsDamaged upgrade_checks files image text
+UpgradeIsDue files image other text = LoadIsDue files image other text
+
+-- there is a file of this name, an image that passes all checks, and the text says what it holds
+pub record IsReported (files : Option Files) (image text : List ℕ) : Type 0 where
+  pub bytes : List ℕ
+  pub found : Finds files image bytes
+  pub sound : damage_of (image_checks bytes) ≡ None
+  pub is_text : text ≡ report_text (report_of (image_words bytes))
+
+-- the status that `check` of an image is to end with, and the text that it is to write
+abbrev pub CheckIsDue : Option Files → List ℕ → Status → List ℕ → Type 0
+CheckIsDue files image Done text = IsReported files image text
+CheckIsDue files image Image text = IsDamaged image_checks files image text
+CheckIsDue files image other text = LoadIsDue files image other text
 
 -- the words are `play` of some image
 abbrev pub ArePlay : List (List ℕ) → Type 0
@@ -115,18 +143,27 @@ AreMkfs words =
 abbrev pub AreUpgrade : List (List ℕ) → Type 0
 AreUpgrade words = (image : List ℕ) × ((new : List ℕ) × IsUpgrade words image new)
 
+-- the words are `check` of some image
+abbrev pub AreCheck : List (List ℕ) → Type 0
+AreCheck words = (image : List ℕ) × IsCheck words image
+
 -- the words are no command that saves
 abbrev pub SaveNone : List (List ℕ) → Type 0
 SaveNone words = (AreMkfs words → ⊥) × (AreUpgrade words → ⊥)
 
 -- the words are no command
 abbrev pub AreNone : List (List ℕ) → Type 0
-AreNone words = (ArePlay words → ⊥) × SaveNone words
+AreNone words = (ArePlay words → ⊥) × (AreCheck words → ⊥) × SaveNone words
 
 -- the words are `upgrade` of an image, and this is due of it
 abbrev pub IsDueOfUpgrade : List (List ℕ) → Option Files → Status → List ℕ → Type 0
 IsDueOfUpgrade words files status text = (image : List ℕ)
     × ((new : List ℕ) × (IsUpgrade words image new × UpgradeIsDue files image status text))
+
+-- the words are `check` of an image, and this is due of it
+abbrev pub IsDueOfCheck : List (List ℕ) → Option Files → Status → List ℕ → Type 0
+IsDueOfCheck words files status text =
+    (image : List ℕ) × (IsCheck words image × CheckIsDue files image status text)
 
 -- The status that the call is to end with, and the text that it is to write: `mkfs` writes none.
 abbrev pub IsDue : List (List ℕ) → Option Files → Option (List ℕ) → Option (List ℕ) → Status
@@ -135,7 +172,8 @@ IsDue words files left rest status text =
     (ArePlay words × PlayIsDue left rest status text)
     ⊎ ((AreMkfs words × (status ≡ Done) × (text ≡ []))
     ⊎ (IsDueOfUpgrade words files status text
-    ⊎ (AreNone words × (status ≡ Usage) × (text ≡ usage_text))))
+    ⊎ (IsDueOfCheck words files status text
+    ⊎ (AreNone words × (status ≡ Usage) × (text ≡ usage_text)))))
 
 -- some front of a text that is due was written
 pub record WritesFront (due : Status → List ℕ → Type 0)
@@ -197,12 +235,16 @@ pub record FailsToSave (words : List (List ℕ)) (before after : Shelved) : Type
   pub are : IsNew words name bytes ⊎ IsUpgraded words before.files name bytes
   pub fails : SaveFails name before after
 
--- what became of the shelf: only `upgrade` loads
+-- the words are a command that loads
+abbrev pub DoLoad : List (List ℕ) → Type 0
+DoLoad words = AreUpgrade words ⊎ AreCheck words
+
+-- what became of the shelf
 abbrev pub LeavesShelf : Status → List (List ℕ) → Shelved → Shelved → Type 0
 LeavesShelf Done words before after =
     Saves words before.files after.files ⊎ (SaveNone words × (after.files ≡ before.files))
 LeavesShelf Shelf words before after =
-    (AreUpgrade words × LoadFails before after) ⊎ FailsToSave words before after
+    (DoLoad words × LoadFails before after) ⊎ FailsToSave words before after
 LeavesShelf other words before after = after.files ≡ before.files
 
 -- A call with these words ended so: what it wrote is what is due, and the shelf is as the status
@@ -245,6 +287,14 @@ Upgrades Shelf image name before after =
     LoadFails before after ⊎ FailsToRenew image name before after
 Upgrades other image name before after = after.files ≡ before.files
 
+-- what became of the shelf by a call that only loads
+abbrev pub Loads : Status → Shelved → Shelved → Type 0
+Loads Usage before after = ⊥
+Loads Script before after = ⊥
+Loads Input before after = ⊥
+Loads Shelf before after = LoadFails before after
+Loads other before after = after.files ≡ before.files
+
 -- the call ended with the status that was due
 abbrev pub IsHeeded : Status → Type 0
 IsHeeded Input = ⊥
@@ -258,3 +308,21 @@ abbrev pub Says : Status → Status → List ℕ → Option (List ℕ) → Optio
 Says result status text before after =
     ((result ≡ status) × Appends before after text)
     ⊎ ((result ≡ Output) × AppendsFront before after text)
+
+-- so it was, unless memory lacked for the text
+abbrev pub MaySay : Status → Status → List ℕ → Option (List ℕ) → Option (List ℕ) → Type 0
+MaySay result status text before after =
+    ((result ≡ NoMemory) × (after ≡ before)) ⊎ Says result status text before after
+
+-- why an image was refused: nothing is said where memory lacked for its checks
+abbrev pub SaysWhy : ImageRefusal → Status → Option (List ℕ) → Option (List ℕ) → Type 0
+SaysWhy (refusals.Damaged offset found against) result before after =
+    MaySay result Image
+    (damaged_text record { offset = offset; found = found; against = against }) before after
+SaysWhy refusals.NoMemory result before after = (result ≡ NoMemory) × (after ≡ before)
+
+-- the refusal names the damage of the first of these checks that fails, unless memory lacked
+abbrev pub Names : List Check → ImageRefusal → Type 0
+Names checks (refusals.Damaged offset found against) =
+    damage_of checks ≡ Some record { offset = offset; found = found; against = against }
+Names checks refusals.NoMemory = Unit {0}

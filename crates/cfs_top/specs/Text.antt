@@ -2,6 +2,7 @@
 use Rattle.std.specs.Prelude.{ℕ, List, [], ◌∷◌, ◌++◌, length, codes}
 use Rattle.std.specs.Fmt.{decimal}
 use Rattle.hex.specs.Hex.{encode_lower}
+use Rattle.cfs_fsck.specs.declared.report.Report.{Report}
 use Rattle.cfs_image.specs.Checks.{Damage}
 use Rattle.cfs_top.specs.declared.printed.Printed.{Printed}
 use Rattle.cfs_top.specs.declared.printed.Printed.TheVariants.{Opened, Wrote, Got, Done}
@@ -21,6 +22,13 @@ abbrev pub damaged_text : Damage → List ℕ
 damaged_text damage =
     codes "image refused: offset " ++ (decimal damage.offset ++ (codes " found "
     ++ (decimal damage.found ++ (codes " against " ++ (decimal damage.against ++ codes "\n")))))
+
+-- what a store holds
+abbrev pub report_text : Report → List ℕ
+report_text report =
+    codes "ok nodes=" ++ (decimal report.nodes ++ (codes " live=" ++ (decimal report.live
+    ++ (codes " noop=" ++ (decimal report.noop ++ (codes " blocks=" ++ (decimal report.blocks
+    ++ codes "\n")))))))
 
 -- the line's number, and the file and the place of its request
 abbrev pub head_text : ℕ → ℕ → ℕ → List ℕ

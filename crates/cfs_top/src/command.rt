@@ -4,7 +4,8 @@ ghost use Rattle.std.specs.Prelude.{◌≡◌, ◌==◌, ◌≤◌, ◌&&◌, Li
 ghost use Rattle.std.specs.Prelude.{IfNone};
 ghost use Rattle.std.specs.Fmt.{decimal};
 ghost use Rattle.std.specs.List.{list_all};
-ghost use Rattle.cfs_top.specs.Command.{IsMkfs, IsPlay, IsUpgrade, is_image_byte, is_image_name};
+ghost use Rattle.cfs_top.specs.Command.{IsCheck, IsMkfs, IsPlay, IsUpgrade};
+ghost use Rattle.cfs_top.specs.Command.{is_image_byte, is_image_name};
 
 use cfs_file::Word;
 use cfs_image::{FEWEST_BLOCKS, FEWEST_QUEUES, MOST_BLOCKS, MOST_QUEUES};
@@ -99,6 +100,23 @@ pub(crate) fn image_to_play(words: &[Word]) -> Option<&Word>
         [_, command, image] if is_play(command) && is_image(image) => Some(image),
         _ => None,
     }
+}
+
+/// The image of `check IMAGE`, if the words are that command. The first word is the program's name.
+pub(crate) fn image_to_check(words: &[Word]) -> Option<&Word>
+    ensures found { IfSome result (λ image. IsCheck words.now image.now) }
+    ensures none { IfNone result ((image : List ℕ) → IsCheck words.now image → ⊥) }
+{
+    match words {
+        [_, command, image] if is_check(command) && is_image(image) => Some(image),
+        _ => None,
+    }
+}
+
+fn is_check(word: &Word) -> bool
+    ensures { result ≡ Rattle.cfs_top.specs.Command.is_check word.now }
+{
+    word.as_slice() == b"check".as_slice()
 }
 
 fn is_play(word: &Word) -> bool

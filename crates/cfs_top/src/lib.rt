@@ -2,6 +2,7 @@
 //! shelf that are handed in.
 #![tactic(auto)]
 
+mod check;
 mod command;
 mod out_line;
 mod play;
@@ -10,6 +11,7 @@ mod say;
 mod stage;
 mod status;
 mod steady;
+mod stored;
 mod upgrade;
 mod world;
 

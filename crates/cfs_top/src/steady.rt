@@ -9,7 +9,8 @@ ghost use Rattle.cfs_io.specs.Streams.{SomeCame};
 ghost use Rattle.cfs_top.specs.Outside.{Ends, Makes, PlayIsDue, Writes};
 
 use crate::Status;
-use crate::command::{image_to_play, image_to_upgrade, store_to_make};
+use crate::check::check;
+use crate::command::{image_to_check, image_to_play, image_to_upgrade, store_to_make};
 use crate::play::{PlayEnd, play_script};
 use crate::say::say;
 use crate::stage::are_served;
@@ -33,6 +34,9 @@ use std::alloc::Global;
 /// `upgrade IMAGE NEW` saves what the image of version 1 becomes as an image of the present
 /// version, under another name. It reads no input, and the old image stays as it was. Two spellings
 /// of one path count as two names; then the new image replaces the old one.
+///
+/// `check IMAGE` writes one line: what the store of an image holds, or the first check of it that
+/// fails. It reads no input, and the shelf stays as it was.
 pub fn crossfs_steady<S: Source, K: Sink, H: Shelf>(
     alloc: Global,
     words: &[Word],
@@ -73,6 +77,9 @@ pub fn crossfs_steady<S: Source, K: Sink, H: Shelf>(
     }
     if let Some(images) = image_to_upgrade(words) {
         return upgrade(alloc, images.image, images.new, output, shelf);
+    }
+    if let Some(image) = image_to_check(words) {
+        return check(alloc, image, output, shelf);
     }
     match image_to_play(words) {
         Some(_) => play(alloc, input, output),

@@ -1,16 +1,18 @@
 //! What an image of version 1 becomes, saved under another name.
 
-ghost use Rattle.std.specs.Prelude.{◌≡◌, ◌≢◌, ◌⊎◌, IfOk};
-ghost use Rattle.std.specs.String.{string_bytes};
+ghost use Rattle.std.specs.Prelude.{◌≡◌, ◌≢◌, IfErr, IfOk, None, OnOk};
+ghost use Rattle.cfs_image.specs.Checks.{damage_of};
+ghost use Rattle.cfs_move.specs.Upgraded.{upgraded};
 ghost use Rattle.cfs_pmem.specs.Faults.{Rose};
-ghost use Rattle.cfs_top.specs.Outside.{Says, UpgradeIsDue, Upgrades, Writes};
-ghost use Rattle.cfs_top.specs.Text.{damaged_text};
+ghost use Rattle.cfs_top.specs.Outside.{Names, UpgradeIsDue, Upgrades, Writes};
+ghost use Rattle.cfs_top.specs.Outside.{upgrade_checks};
 
 use crate::Status;
-use crate::say::say;
-use cfs_file::{NoMemory, Word};
+use crate::stored::{load, refuse};
+use cfs_file::{Bytes, Word};
+use cfs_fsck::check_image;
 use cfs_image::ImageRefusal;
-use cfs_io::{IoFault, LoadRefusal, Shelf, Sink};
+use cfs_io::{IoFault, Shelf, Sink};
 use cfs_move::upgrade_bytes;
 use std::alloc::Global;
 
@@ -40,22 +42,13 @@ pub(crate) fn upgrade<K: Sink, H: Shelf>(
     ensures loads { result ≢ Status.Shelf → H.load_faults shelf.new ≡ H.load_faults shelf.old }
     ensures saves { result ≢ Status.Shelf → H.save_faults shelf.new ≡ H.save_faults shelf.old }
 {
-    let bytes = match shelf.load(image) {
+    let bytes = match load(image, output, shelf) {
         Ok(bytes) => bytes,
-        Err(LoadRefusal::Absent) => return say(output, b"absent\n", Status::Absent),
-        Err(LoadRefusal::Failed) => return Status::Shelf,
-        Err(LoadRefusal::NoMemory) => return Status::NoMemory,
+        Err(status) => return status,
     };
-    let upgraded = match upgrade_bytes(alloc, bytes.as_slice()) {
+    let upgraded = match upgrade_soundly(alloc, bytes.as_slice()) {
         Ok(upgraded) => upgraded,
-        Err(
-            ImageRefusal::Damaged {
-                offset,
-                found,
-                against,
-            },
-        ) => return refuse(alloc, offset, found, against, output),
-        Err(ImageRefusal::NoMemory) => return Status::NoMemory,
+        Err(refusal) => return refuse(alloc, refusal, output),
     };
     match shelf.save(new, upgraded.as_slice()) {
         Ok(()) => Status::Done,
@@ -63,28 +56,13 @@ pub(crate) fn upgrade<K: Sink, H: Shelf>(
     }
 }
 
-/// Writes which damage an image has.
-fn refuse<K: Sink>(alloc: Global, offset: u64, found: u64, against: u64, output: &mut K) -> Status
-    ensures said { ((result ≡ Status.NoMemory) × (K.written output.new ≡ K.written output.old))
-        ⊎ Says result Status.Image
-        (damaged_text record { offset = offset; found = found; against = against })
-        (K.written output.old) (K.written output.new) }
-    ensures output { result ≡ Status.Output → Rose (K.faults output.old) (K.faults output.new) }
-    ensures sink { result ≢ Status.Output → K.faults output.new ≡ K.faults output.old }
+/// What an image of version 1 becomes, where that passes all checks.
+fn upgrade_soundly(alloc: Global, bytes: &[u8]) -> Result<Bytes, ImageRefusal>
+    ensures image { IfOk result (λ image. image ≡ upgraded bytes.now) }
+    ensures sound { OnOk result (damage_of (upgrade_checks bytes.now) ≡ None) }
+    ensures named { IfErr result (Names (upgrade_checks bytes.now)) }
 {
-    match print_damage(alloc, offset, found, against) {
-        Ok(text) => say(output, text.as_bytes(), Status::Image),
-        Err(NoMemory) => Status::NoMemory,
-    }
-}
-
-/// The text of an image's damage.
-fn print_damage(alloc: Global, offset: u64, found: u64, against: u64) -> Result<String, NoMemory>
-    ensures { IfOk result (λ text. string_bytes text ≡
-        damaged_text record { offset = offset; found = found; against = against }) }
-{
-    let text = format!(in alloc;
-        "image refused: offset {offset} found {found} against {against}\n"
-    )?;
-    Ok(text)
+    let image = upgrade_bytes(alloc, bytes)?;
+    check_image(alloc, image.as_slice())?;
+    Ok(image)
 }

@@ -1,5 +1,6 @@
 use Rattle.std.proofs.Common.{◌∙◌, inl, inr, [], refl, sym}
-use Rattle.cfs_top.proofs.Ends.{Consumes-none, kept_shelf, mkfs_ends, output_input, output_shelf}
+use Rattle.cfs_top.proofs.Ends.{Consumes-none, check_ends, kept_shelf, mkfs_ends, output_input}
+use Rattle.cfs_top.proofs.Ends.{output_shelf}
 use Rattle.cfs_top.proofs.Ends.{play_writes, said_writes, upgrade_ends, usage_input, usage_shelf}
 use Rattle.cfs_top.specs.Outside.{SaveNone}
 use Rattle.cfs_top.proofs.steady.crossfs_steady.Goals as goal
@@ -11,6 +12,15 @@ pub returns-in-Some-image_to_upgrade-clause-ends : goal.returns-in-Some-image_to
 returns-in-Some-image_to_upgrade-clause-ends g c =
     upgrade_ends _ _ _ _ _ _ _ _ _ c.in-Some-image_to_upgrade.ensures.found c.upgrade.ensures.writes
     c.upgrade.ensures.upgrades
+
+pub returns-in-Some-image_to_check-clause-ends : goal.returns-in-Some-image_to_check-clause-ends
+returns-in-Some-image_to_check-clause-ends g c =
+    let none : SaveNone c.args.words.now = (
+      λ mkfs. c.in_default.ensures.none mkfs.0 mkfs.1.0 mkfs.1.1.0 mkfs.1.1.1,
+      λ upgrade. c.in_default-image_to_upgrade.ensures.none upgrade.0 upgrade.1.0 upgrade.1.1,
+    ) in
+    check_ends _ _ _ _ _ _ _ _ c.in-Some-image_to_check.ensures.found none c.check.ensures.writes
+    c.check.ensures.leaves
 
 pub returns-in-Some-image_to_play-clause-ends : goal.returns-in-Some-image_to_play-clause-ends
 returns-in-Some-image_to_play-clause-ends g c =
@@ -35,7 +45,15 @@ returns-in-None-clause-ends g c =
     ) in
     record {
       writes = said_writes _ _ _ _ _ _ tt
-          (inr (inr (inr ((λ play. c.in-None.ensures.none play.0 play.1, none), refl, refl))))
+          (inr (inr (inr (inr (
+            (
+              λ play. c.in-None.ensures.none play.0 play.1,
+              λ check. c.in_default-image_to_check.ensures.none check.0 check.1,
+              none,
+            ),
+            refl,
+            refl,
+          )))))
           c.say.ensures.said;
       asked = λ input. elim c.say.ensures.said [ inl all ↦ absurd (usage_input (sym all.0 ∙ input)) | inr front ↦ absurd (output_input (sym front.0 ∙ input)) ];
       came = ([], Consumes-none _);

@@ -1,10 +1,10 @@
 use Rattle.std.proofs.Common.{◌∙◌, ℕ, List, inr, subst}
-use Rattle.cfs_top.specs.declared.status.Status.TheVariants.{Image}
+use Rattle.cfs_top.specs.declared.status.Status.TheVariants.{Done}
 use Rattle.cfs_top.specs.Outside.{Says}
-use Rattle.cfs_top.proofs.upgrade.refuse.Goals as goal
+use Rattle.cfs_top.proofs.check.tell.Goals as goal
 
 pub returns-in-Ok-clause-said : goal.returns-in-Ok-clause-said
 returns-in-Ok-clause-said g c =
-    inr (subst (λ (text : List ℕ). Says c.say.result Image text (g.K.Sink.written c.args.output.now)
+    inr (subst (λ (text : List ℕ). Says c.say.result Done text (g.K.Sink.written c.args.output.now)
     (g.K.Sink.written c.say.new.output))
     (c.as_bytes.ensures.value ∙ c.in-Ok.ensures) c.say.ensures.said)
