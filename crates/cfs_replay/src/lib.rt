@@ -8,7 +8,7 @@ mod pending;
 mod pieces;
 mod reading;
 
-pub use one::{bring_truncate, bring_write};
+pub use one::{bring_truncate, bring_write, replay_entry};
 pub use payload::{MOST_PLACES, places_of, read_payload};
 pub use pending::Pending;
 pub use pieces::{MOST_PIECES, write_pieces, zero_pieces};
