@@ -1,7 +1,7 @@
 //! A part of a request.
 
 /// A part of a request's bytes, and the range of one block that it is for.
-#[derive(Clone, Copy, Debug, PartialEq, Eq)]
+#[derive(Clone, Copy, Debug, Default, PartialEq, Eq)]
 pub struct Piece {
     /// The place of the block among all blocks.
     pub at: usize,

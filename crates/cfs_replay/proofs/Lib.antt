@@ -1,0 +1,4 @@
+pub mod ReadCalls
+pub mod Payloads
+pub mod Cutting
+pub mod OneEntry

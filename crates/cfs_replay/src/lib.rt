@@ -1,0 +1,15 @@
+//! One live entry of a file is brought home from what its slots hold: its payload is read, it is
+//! cut into pieces by the blocks that its file has, and these are brought home by `cfs_recover`.
+#![tactic(auto)]
+
+mod one;
+mod payload;
+mod pending;
+mod pieces;
+mod reading;
+
+pub use one::{bring_truncate, bring_write, replay_entry};
+pub use payload::{MOST_PLACES, places_of, read_payload};
+pub use pending::Pending;
+pub use pieces::{MOST_PIECES, write_pieces, zero_pieces};
+pub use reading::{read_found, read_word};
