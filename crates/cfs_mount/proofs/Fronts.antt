@@ -14,8 +14,12 @@ use Rattle.cfs_ckpt.specs.Selects.{Selects}
 use Rattle.cfs_ckpt.proofs.LoadLemmas.{each_at}
 use Rattle.cfs_journal.specs.Standing.{Standing, changes_above}
 use Rattle.cfs_names.specs.Behind.{AreBehind, IsBehind}
-use Rattle.cfs_survey.specs.Journals.{gates_checks, last_reached}
-use Rattle.cfs_survey.specs.Surveys.{Words, through_of}
+use Rattle.cfs_image.specs.Layout.{journal_at}
+use Rattle.cfs_survey.specs.Journals.{changes_checks, gates_checks, last_reached, reached}
+use Rattle.cfs_survey.specs.Journals.{table_places}
+use Rattle.cfs_survey.specs.Surveys.{Words, namespace_checks, selected_at, survey_checks, through_of}
+use Rattle.cfs_survey.specs.Tables.{table_checks}
+use Rattle.cfs_survey.proofs.FirstFaults.{sound_parts}
 use Rattle.cfs_mount.specs.Front.{HoldFront}
 use Rattle.cfs_mount.proofs.Distinct.{first_distinct, second_distinct}
 use Rattle.cfs_mount.proofs.Standings.{checked-stands}
@@ -26,11 +30,11 @@ pub selects : (words : Words) (selector : Seen WordStep) (tables records : List 
 selects words selector tables records front = record {
   size = omega (arith, front.copies);
   distinct = first_distinct (selector ∷ tables) records front.distinct;
-  selector = front.selector (words_of selector) (now_is_image selector.history);
-  tables = front.tables;
+  selector = front.word (words_of selector) (now_is_image selector.history);
+  tables = front.long;
   settled = λ settled image possible.
-      front.selector image possible
-      ∙ sym (front.selector (words_of selector) (now_is_image selector.history));
+      front.word image possible
+      ∙ sym (front.word (words_of selector) (now_is_image selector.history));
   chosen = λ image possible. front.sure (word_in image % 2) (omega arith);
 }
 
@@ -40,7 +44,7 @@ pub loads : (words : Words) (selector : Seen WordStep) (tables records : List (S
     x ≡ record { tree = table_in words.table; through = through_of words.selector }
 loads words selector tables records front x can =
     let word : word_in (get_or can.images 0 []) ≡ words.selector =
-    ap (λ ws. word_in ws) (front.selector (get_or can.images 0 [])
+    ap (λ ws. word_in ws) (front.word (get_or can.images 0 [])
     (each_at (selector ∷ tables) can.images 0 can.possible (omega (arith, front.copies)))) in
     let copy : ℕ = words.selector % 2 in
     let image : get_or can.images (suc copy) [] ≡ words.table =
@@ -81,7 +85,19 @@ pub journal-stands : (words : Words) (selector : Seen WordStep)
 journal-stands words selector tables records front at places low sound =
     checked-stands at (through_of words.selector) words.journal records places (omega (arith, low))
     (λ position within.
-    ap (λ ws. length ws) (sym (front.records.each position (omega (arith, within, places))
+    ap (λ ws. length ws) (sym (front.journal.each position (omega (arith, within, places))
     (words_of (seen_at records position)) (now_is_image (seen_at records position).history)))
     ∙ front.sizes position within)
-    (second_distinct (selector ∷ tables) records front.distinct) front.records sound
+    (second_distinct (selector ∷ tables) records front.distinct) front.journal sound
+
+-- the two walks over all gates are among the checks of a store
+pub gates-sound : (words : Words) → damage_of (survey_checks words) ≡ None →
+    damage_of (gates_checks (journal_at 0) words.journal
+    (last_reached (through_of words.selector) words.journal)) ≡ None
+unfolding survey_checks namespace_checks
+gates-sound words sound =
+    let names = (sound_parts (namespace_checks words) _ sound).0 in
+    let journal = (sound_parts (table_checks (selected_at words.selector) words.table) _ names).1 in
+    (sound_parts (changes_checks (journal_at 0) (through_of words.selector) (table_in words.table)
+    (table_places (selected_at words.selector)) (reached (through_of words.selector) words.journal))
+    _ journal).1

@@ -10,11 +10,11 @@ use Rattle.cfs_mount.specs.Words.{HoldWords}
 -- They hold these words in every image, as they do after an image was loaded, or after a crash.
 pub record HoldFront (words : Words) (selector : Seen WordStep)
     (tables records : List (Seen WordStep)) : Type 0 where
-  pub selector : AllImages selector (λ image. image ≡ words.selector ∷ [])
+  pub word : AllImages selector (λ image. image ≡ words.selector ∷ [])
   pub copies : length tables ≡ 2
-  pub tables : (copy : ℕ) → copy < 2 → length (words_of (seen_at tables copy)) ≡ 3073
+  pub long : (copy : ℕ) → copy < 2 → length (words_of (seen_at tables copy)) ≡ 3073
   pub sure : (copy : ℕ) → copy < 2 → IsSure (seen_at tables copy)
   pub selected : words_of (seen_at tables (words.selector % 2)) ≡ words.table
-  pub records : HoldWords records words.journal
+  pub journal : HoldWords records words.journal
   pub sizes : (position : ℕ) → position < 64 → length (words_of (seen_at records position)) ≡ 16
   pub distinct : AreDistinct (all_devices ((selector ∷ tables) ++ records))
