@@ -1,5 +1,5 @@
 -- How calls of the program end.
-use Rattle.std.proofs.Common.{◌≡◌, ◌∙◌, ◌⊎◌, ◌≤◌, length, inl, inr, ℕ, Some, None, List, []}
+use Rattle.std.proofs.Common.{◌≡◌, ◌∙◌, ◌≤◌, length, inl, inr, ℕ, Some, None, List, []}
 use Rattle.std.proofs.Common.{refl, subst, sym, true}
 use Rattle.std.specs.declared.option.Option.{Option}
 use Rattle.std.specs.Io.KnownBytes.{Consumes, IsAtEnd}

@@ -1,5 +1,5 @@
 -- Which check of an upgrade is the first that fails.
-use Rattle.std.proofs.Common.{◌≡◌, ◌∙◌, ℕ, List, Some, None, ap, subst, sym}
+use Rattle.std.proofs.Common.{◌≡◌, ◌∙◌, ℕ, List, None, ap, subst, sym}
 use Rattle.std.specs.Prelude.{IfErr, Result, Err}
 use Rattle.cfs_fsck.specs.Images.{image_checks}
 use Rattle.cfs_fsck.specs.Refusals.{NamesFault}

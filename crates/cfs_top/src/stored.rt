@@ -1,6 +1,6 @@
 //! An image of the shelf: loaded, or refused.
 
-ghost use Rattle.std.specs.Prelude.{◌≡◌, ◌≢◌, IfErr, IfOk, OnErr, OnOk};
+ghost use Rattle.std.specs.Prelude.{◌≡◌, ◌≢◌, IfErr, IfOk, OnOk};
 ghost use Rattle.std.specs.String.{string_bytes};
 ghost use Rattle.cfs_io.specs.Files.{Finds};
 ghost use Rattle.cfs_pmem.specs.Faults.{Rose};
