@@ -1,5 +1,5 @@
 -- How many live entries, no-ops and tags there are.
-use Rattle.std.proofs.Common.{◌≡◌, ◌∙◌, ℕ, zero, suc, ◌+◌, ◌<◌, List, [], ◌∷◌, length, get_or, true}
+use Rattle.std.proofs.Common.{◌≡◌, ◌∙◌, ℕ, suc, ◌+◌, ◌<◌, List, [], ◌∷◌, length, get_or, true}
 use Rattle.std.proofs.Common.{false, Bool, refl, sym, ap, arith, cond}
 use Rattle.std.specs.Prelude.{Option, Some, None, nat_eq, not, unwrap_or, if◌then◌else◌}
 use Rattle.std.proofs.Math.Path.{fun_ext}

@@ -1,6 +1,6 @@
 -- Which check of an image is the first that fails.
 use Rattle.std.proofs.Common.{◌≡◌, ◌∙◌, ℕ, List, sym, subst}
-use Rattle.std.specs.Prelude.{IfErr, None, Result, Ok, Err}
+use Rattle.std.specs.Prelude.{IfErr, None, Result, Err}
 use Rattle.cfs_image.specs.declared.refusal.ImageRefusal.{ImageRefusal}
 use Rattle.cfs_image.specs.declared.refusal.ImageRefusal.TheVariants as images
 use Rattle.cfs_image.specs.declared.version.Version.TheVariants.{Present}

@@ -1,6 +1,6 @@
 -- The kinds of inode numbers, node by node.
 use Rattle.std.proofs.Common.{◌≡◌, ◌∙◌, ℕ, ◌+◌, ◌<◌, List, [], ◌∷◌, ◌++◌, length, take, get_or, not, refl, sym, ap}
-use Rattle.std.specs.Prelude.{Option, Some, None, Bool, find, nat_eq, ◌==◌}
+use Rattle.std.specs.Prelude.{Option, Some, None, nat_eq, ◌==◌}
 use Rattle.std.specs.HashMap.{get}
 use Rattle.std.specs.Option.{option_map, option_or}
 use Rattle.std.proofs.lemmas.List.Folds.{find-append}

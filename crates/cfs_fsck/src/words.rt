@@ -1,5 +1,5 @@
 //! The words of an image that a survey looks at.
-ghost use Rattle.std.specs.Prelude.{◌≡◌, ◌+◌, ◌*◌, ◌<◌, ◌≤◌, ◌^◌, IfOk, length};
+ghost use Rattle.std.specs.Prelude.{◌≡◌, ◌+◌, ◌*◌, ◌<◌, ◌≤◌, IfOk, length};
 ghost use Rattle.cfs_fsck.specs.Images.{image_words, rows_at, tags_at, words_at};
 ghost use Rattle.cfs_image.specs.Checks.{IsSound};
 ghost use Rattle.cfs_image.specs.Image.{word_at};

@@ -1,12 +1,11 @@
-use Rattle.std.proofs.Common.{◌≡◌, ◌∙◌, ℕ, List, ap, subst, sym}
+use Rattle.std.proofs.Common.{◌≡◌, ◌∙◌, ap, subst, sym}
 use Rattle.std.specs.Prelude.{None}
 use Rattle.std.proofs.lemmas.Result.{err_from_is_err_and}
 use Rattle.cfs_image.specs.Checks.{damage_of}
-use Rattle.cfs_dir.specs.declared.node.Node.{Node}
 use Rattle.cfs_dir.specs.Namespace.{Namespace}
 use Rattle.cfs_survey.specs.Refusals.{Refuses}
 use Rattle.cfs_survey.specs.Surveys.{Words, recovered_tree, survey_checks, words_of}
-use Rattle.cfs_fsck.specs.Refusals.{NamesFault, refusal_as}
+use Rattle.cfs_fsck.specs.Refusals.{NamesFault}
 use Rattle.cfs_fsck.specs.Reports.{counts_of, report_of}
 use Rattle.cfs_fsck.proofs.Faults.{header_refused, image_sound, words_fault}
 use Rattle.cfs_fsck.proofs.check.check_image.Goals as goal

@@ -1,6 +1,6 @@
 use Rattle.std.proofs.Common.{◌≡◌, ◌∙◌, ◌+◌, ◌*◌, ℕ, ap, arith, subst, sym}
 use Rattle.cfs_image.specs.Image.{word_at}
-use Rattle.cfs_image.specs.Layout.{journal_at, slot_at}
+use Rattle.cfs_image.specs.Layout.{slot_at}
 use Rattle.cfs_image.proofs.Headers.{IsHeaded, headed}
 use Rattle.cfs_survey.specs.Surveys.{AreWhole, selected_at}
 use Rattle.cfs_fsck.specs.Images.{image_words, rows_at, tags_at, words_at}
