@@ -2,3 +2,4 @@ pub mod ReadCalls
 pub mod Payloads
 pub mod Cutting
 pub mod OneEntry
+pub mod Replays

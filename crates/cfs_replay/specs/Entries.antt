@@ -1,4 +1,4 @@
--- A live entry, as a mount takes it up.
+-- The live entries of all files, as a mount takes them up one after another.
 use Rattle.std.specs.Prelude.{ℕ, ◌+◌, ◌*◌, ◌/◌, ◌^◌, ◌<◌, ◌≤◌, ◌≡◌, ◌≢◌, List, [], ◌∷◌, length}
 use Rattle.std.specs.Prelude.{Result, OnOk, Some, map, get_or}
 use Rattle.std.specs.List.{Contains}
@@ -14,9 +14,10 @@ use Rattle.cfs_medium.specs.Depicts.{content_at}
 use Rattle.cfs_medium.specs.Store.{by_gate, entry_at, live_in}
 use Rattle.cfs_home.specs.Calls.{MountMoments}
 use Rattle.cfs_home.specs.Disks.{Disk, File, IsMapped, shut}
+use Rattle.cfs_home.specs.Ends.{IsClosedOrLive}
 use Rattle.cfs_recover.specs.Begins.{Stands, both}
 use Rattle.cfs_replay.specs.declared.pending.Pending.{Pending}
-use Rattle.cfs_replay.specs.Pieces.{tags_in}
+use Rattle.cfs_replay.specs.Pieces.{BlockMap, FindsBlocks, tags_in}
 use Rattle.cfs_replay.specs.Reading.{slots_in, words_at}
 
 -- ---- one of them
@@ -51,6 +52,16 @@ pub record IsTakenUp (pending : Pending) (head : Found) (size : ℕ)
   pub place : 323 + pending.slot < length regions
   pub reads : head ≡ found_of (words_at regions (323 + pending.slot))
   pub stored : size ≡ get_or (words_at regions (67 + pending.node)) 0 0
+
+-- ---- all of them, in order
+
+-- Each is the next one once those before it are closed, and behind the last no entry is live.
+abbrev pub AreInOrder : List File → List (List ℕ) → List Content → List Pending → Type 0
+AreInOrder files slots blocks [] =
+    (file : File) → Contains files file → by_gate (live_in file.ino slots) ≡ []
+AreInOrder files slots blocks (pending ∷ rest) =
+    IsNext files slots blocks pending
+    × AreInOrder files (shut pending.slot slots) blocks rest
 
 -- ---- behind one of them
 
@@ -90,3 +101,25 @@ pub record BringsHome {T E : Type 0} (pending : Pending) (result : Result T E)
   pub tags : OnOk result (tags_in blocks_new ≡ tags_in blocks_old)
   pub devices : numbers_of (both regions_new blocks_new)
       ≡ numbers_of (both regions_old blocks_old)
+
+-- The record, inode number and slots of an entry are in range, what it holds is whole, and the map
+-- finds the blocks of its file.
+pub record CanReplay (found : BlockMap) (tags : List ℕ) (regions : List (Seen WordStep))
+    (pending : Pending) : Type 0 where
+  pub node : pending.node < 256
+  pub ino : pending.ino < 2 ^ 32
+  pub slot : pending.slot < 2 ^ 32
+  pub queue : 323 + (pending.slot / 16 * 16 + 15) < length regions
+  pub whole : HoldsWhole (words_at regions (323 + pending.slot))
+  pub finds : FindsBlocks pending.ino found tags
+
+-- A mount has come to a disk where these entries are left, and finds the files of `start` there. A
+-- crash leaves no other disk. Tags are as at first, and no slot was opened.
+pub record HaveLeft (files : List File) (start first : Disk) (left : List Pending)
+    (regions : List (Seen WordStep)) (blocks : List (Seen BlockStep)) : Type 0 where
+  pub now : Disk
+  pub stands : Stands files start now regions blocks
+  pub tags : HaveTags first.blocks now.blocks
+  pub swept : ((at : ℕ) → IsClosedOrLive files (get_or first.slots at [])) →
+      (at : ℕ) → IsClosedOrLive files (get_or now.slots at [])
+  pub order : AreInOrder files now.slots now.blocks left

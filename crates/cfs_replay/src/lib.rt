@@ -1,13 +1,15 @@
-//! One live entry of a file is brought home from what its slots hold: its payload is read, it is
+//! Live entries are brought home from what their slots hold: the payload is read, the request is
 //! cut into pieces by the blocks that its file has, and these are brought home by `cfs_recover`.
 #![tactic(auto)]
 
+mod entries;
 mod one;
 mod payload;
 mod pending;
 mod pieces;
 mod reading;
 
+pub use entries::replay_entries;
 pub use one::{bring_truncate, bring_write, replay_entry};
 pub use payload::{MOST_PLACES, places_of, read_payload};
 pub use pending::Pending;
