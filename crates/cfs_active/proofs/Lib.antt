@@ -1,0 +1,7 @@
+mod Orders
+mod Keepings
+mod Knowns
+mod Finding
+mod Endings
+mod Sendings
+mod Beginnings

@@ -1,0 +1,43 @@
+use Rattle.cfs_block.specs.MemoryBlocks.{seen_of}
+use Rattle.cfs_inode.specs.View.{state_view}
+use Rattle.cfs_active.specs.Memory.{words_seen}
+use Rattle.cfs_active.specs.View.{ActiveView, active_view}
+use Rattle.std.proofs.Common.{[], ◌∷◌, ◌+◌, ap, refl}
+use Rattle.cfs_file.specs.declared.entry.Entry.{Entry}
+use Rattle.cfs_core.specs.declared.event.Event.TheVariants as events
+use Rattle.cfs_inode.specs.Opening.{IsNext}
+use Rattle.cfs_inode.specs.View.{StateView}
+use Rattle.cfs_active.proofs.Keepings.{keeps-same}
+use Rattle.cfs_active.proofs.Knowns.{stays-known}
+use Rattle.cfs_active.proofs.active.ActiveInode.admit_read.Goals as goal
+
+pub invariant_of-self : goal.invariant_of-self
+invariant_of-self c =
+    let old = active_view c.args.self.now in
+    let new : ActiveView = record old {
+      state = state_view words_seen seen_of c.admit_read.new.self;
+    } in
+    let entry : Entry = record {
+      ino = 0;
+      place = old.state.tracker.count + 1;
+      caller = 0;
+      line = 0;
+      request = c.args.request.now;
+    } in
+    let next : IsNext old.state c.args.request.now entry = record {
+      place_is = refl;
+      request_is = refl;
+    } in record {
+      known = stays-known (events.AdmitRead entry ∷ []) [] [] old new
+          (keeps-same old.state _ new.state c.admit_read.ensures.view refl refl refl)
+          (c.admit_read.ensures.makes entry next [] old.jobs) c.args.self.now.known;
+    }
+
+pub returns-clause-view : goal.returns-clause-view
+returns-clause-view c =
+    ap (λ (s : StateView). record (active_view c.args.self.now) { state = s })
+    c.admit_read.ensures.view
+
+pub returns-clause-makes : goal.returns-clause-makes
+returns-clause-makes c = λ entry next asked.
+    c.admit_read.ensures.makes entry next asked (active_view c.args.self.now).jobs

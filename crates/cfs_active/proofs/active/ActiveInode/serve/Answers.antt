@@ -1,0 +1,27 @@
+use Rattle.cfs_block.specs.MemoryBlocks.{seen_of}
+use Rattle.cfs_inode.specs.View.{state_view}
+use Rattle.cfs_active.specs.Memory.{words_seen}
+use Rattle.cfs_active.specs.View.{ActiveView, active_view}
+use Rattle.std.proofs.Common.{true}
+use Rattle.cfs_inode.specs.Serves.{serve_events}
+use Rattle.cfs_active.proofs.Keepings.{keeps-serve}
+use Rattle.cfs_active.proofs.Knowns.{stays-known}
+use Rattle.cfs_active.proofs.active.ActiveInode.serve.Goals as goal
+
+pub invariant_of-self : goal.invariant_of-self
+invariant_of-self g c =
+    let old = active_view c.args.self.now in
+    let new : ActiveView = record old {
+      state = state_view words_seen seen_of c.serve.new.self;
+    } in
+    let asked_old = g.P.Power.asked c.args.power.now in
+    let asked_new = g.P.Power.asked c.serve.new.power in record {
+      known = stays-known (serve_events c.args.place c.serve.result c.serve.new.out) asked_old
+          asked_new old new
+          (keeps-serve true c.args.place c.serve.result c.serve.new.out asked_old old.state
+          asked_new new.state c.serve.ensures.serves)
+          (c.serve.ensures.makes old.jobs) c.args.self.now.known;
+    }
+
+pub returns-clause-makes : goal.returns-clause-makes
+returns-clause-makes g c = c.serve.ensures.makes (active_view c.args.self.now).jobs

@@ -1,0 +1,10 @@
+pub mod Memory
+pub mod Known
+pub mod Find
+pub mod Loads
+pub mod View
+pub mod Makes
+pub mod Sends
+pub mod Applies
+pub mod Ends
+pub mod Admits
