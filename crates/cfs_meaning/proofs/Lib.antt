@@ -33,9 +33,12 @@ pub mod OnlyLines
 pub mod Stored
 pub mod Follow
 pub mod Hoare
+pub mod ShownNeeds
 pub mod ShownFiles
 pub mod ShownBlocks
+pub mod ShownRegions
 pub mod ShownJobs
+pub mod ShownGates
 pub mod ShownParts
 pub mod ShownReads
 pub mod ShownLines

@@ -29,7 +29,8 @@ use Rattle.cfs_meaning.proofs.Hoare.{Leaves, leave-changes, leave-end, leave-eve
 use Rattle.cfs_meaning.proofs.Hoare.{leave-refuse, leave-then, leave-weaker}
 use Rattle.cfs_meaning.proofs.Lines.{mount-up, only-mount}
 use Rattle.cfs_meaning.proofs.ShownJobs.{AtWork, apply-shown}
-use Rattle.cfs_meaning.proofs.ShownFiles.{asked-shown, event-shown, file-shown}
+use Rattle.cfs_meaning.proofs.ShownFiles.{asked-shown, event-shown, file-shown, still-within}
+use Rattle.cfs_meaning.proofs.ShownNeeds.{passed-equipped}
 use Rattle.cfs_meaning.proofs.ShownParts.{Keeps, any-give, any-known, any-look, any-refuse}
 use Rattle.cfs_meaning.proofs.ShownParts.{keep-told, keep-up, moved-shown, same-shown}
 use Rattle.cfs_meaning.proofs.ShownReads.{read-line, serve-line, sync-line}
@@ -60,7 +61,7 @@ keep-read : (d : Descriptor) (c line : ℕ) (request : Request) →
 keep-read d c line request =
     any-look (λ x.
     leave-then (leave-event (λ w shown may_be.
-    event-shown w d.grant.ino (events.AdmitRead (entry x)) may_be
+    event-shown w d.grant.ino (events.AdmitRead (entry x)) may_be refl
     (λ i core devices shows allowed. reads-may-come i core (entry x) devices shows allowed) shown))
     (λ u.
     leave-then (leave-changes (λ w shown. same-shown w _ refl refl refl shown)) (λ v. any-give)))
@@ -82,12 +83,14 @@ passed-shown : (ino place n : ℕ) (world : World) → IsShown world →
     IsShown (with_file (with_passed place n (file_in world ino)) world)
 passed-shown ino place n world shown =
     file-shown world ino (with_passed place n (file_in world ino))
-    (record { ino = refl; rec = refl; held = refl; blocks = refl }) (λ old. old) shown
+    (still-within (core_in world ino) (with_passed place n (file_in world ino)).passed
+    (file_in world ino)) (λ old. old)
+    (passed-equipped (file_in world ino) (with_passed place n (file_in world ino)).passed) shown
 
 keep-dispatch : (ino place : ℕ) → Keeps (dispatch ino place)
 keep-dispatch ino place =
     leave-then (leave-event (λ w shown may_be.
-    event-shown w ino (events.Dispatch place) may_be
+    event-shown w ino (events.Dispatch place) may_be refl
     (λ i core devices shows allowed.
     quiet-events-show i core (events.Dispatch place) devices shows refl allowed) shown)) (λ u.
     leave-changes (λ w shown. passed-shown ino place 0 w shown))

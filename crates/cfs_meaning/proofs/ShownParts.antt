@@ -59,6 +59,8 @@ same-shown old new drive files names shown =
       files = shown.files;
       apart = shown.apart;
       placed = shown.placed;
+      equipped = shown.equipped;
+      numbers = shown.numbers;
       even = shown.even;
       tree = shown.tree;
     })))
