@@ -39,6 +39,7 @@ pub mod ShownBlocks
 pub mod ShownRegions
 pub mod ShownJobs
 pub mod ShownGates
+pub mod ShownTrims
 pub mod ShownParts
 pub mod ShownReads
 pub mod ShownLines

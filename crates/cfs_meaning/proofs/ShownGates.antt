@@ -234,7 +234,7 @@ pub record IsGone (core : Core) (gate : ℕ) : Type 0 where
   pub needless : (k : ℕ) → k + 1 ≡ gate → needs_slots (get_or core.tracks k blank) ≡ false
   pub beside : IsBesideDoubt core gate
 
-off-shut : (flag : Flag) (open_ : Bool) → flag ≡ Off → can_be flag open_ ≡ true → open_ ≡ false
+pub off-shut : (flag : Flag) (open_ : Bool) → flag ≡ Off → can_be flag open_ ≡ true → open_ ≡ false
 off-shut Off true is can = absurd (cc)
 off-shut Off false is can = refl
 off-shut On open_ is can = absurd (cc)
@@ -250,50 +250,53 @@ none-shut : AreShut []
 none-shut [] images = refl
 none-shut (words ∷ slots) images = absurd images
 
--- what is held for other numbers
-find-kept : (gate at : ℕ) → at ≢ gate → (held : List Held) →
-    find (λ h. h.gate == at) (filter (λ h. not (h.gate == gate)) held)
-    ≡ find (λ h. h.gate == at) held
-find-kept gate at apart [] = refl
-find-kept gate at apart (h ∷ held) = by-test (h.gate == gate) refl (find-kept gate at apart held)
-  where
-    rest : List Held
-    rest = filter (λ g. not (g.gate == gate)) held
+-- ---- items by their numbers
 
-    by-test : (b : Bool) → (h.gate == gate) ≡ b →
-        find (λ g. g.gate == at) rest ≡ find (λ g. g.gate == at) held →
-        find (λ g. g.gate == at) (cond (not b) (h ∷ rest) rest)
-        ≡ cond (h.gate == at) (Some h) (find (λ g. g.gate == at) held)
+-- those with other numbers
+pub find-kept : {A : Type 0} (key : A → ℕ) (gone at : ℕ) → at ≢ gone → (items : List A) →
+    find (λ x. key x == at) (filter (λ x. not (key x == gone)) items)
+    ≡ find (λ x. key x == at) items
+find-kept key gone at apart [] = refl
+find-kept {A} key gone at apart (x ∷ items) =
+    by-test (key x == gone) refl (find-kept key gone at apart items)
+  where
+    rest : List A
+    rest = filter (λ y. not (key y == gone)) items
+
+    by-test : (b : Bool) → (key x == gone) ≡ b →
+        find (λ y. key y == at) rest ≡ find (λ y. key y == at) items →
+        find (λ y. key y == at) (cond (not b) (x ∷ rest) rest)
+        ≡ cond (key x == at) (Some x) (find (λ y. key y == at) items)
     by-test true is later =
         later
-        ∙ ap (λ b. cond b (Some h) (find (λ g. g.gate == at) held))
-        (sym (ne_eqb h.gate at (λ same. apart (sym same ∙ eqb-true h.gate gate is))))
-    by-test false is later =
-        ap (λ o. cond (h.gate == at) (Some h) o) later
+        ∙ ap (λ b. cond b (Some x) (find (λ y. key y == at) items))
+        (sym (ne_eqb (key x) at (λ same. apart (sym same ∙ eqb-true (key x) gone is))))
+    by-test false is later = ap (λ o. cond (key x == at) (Some x) o) later
 
-find-gone : (gate : ℕ) (held : List Held) →
-    find (λ h. h.gate == gate) (filter (λ h. not (h.gate == gate)) held) ≡ None
-find-gone gate [] = refl
-find-gone gate (h ∷ held) = by-test (h.gate == gate) refl (find-gone gate held)
+pub find-gone : {A : Type 0} (key : A → ℕ) (gone : ℕ) (items : List A) →
+    find (λ x. key x == gone) (filter (λ x. not (key x == gone)) items) ≡ None
+find-gone key gone [] = refl
+find-gone {A} key gone (x ∷ items) = by-test (key x == gone) refl (find-gone key gone items)
   where
-    rest : List Held
-    rest = filter (λ g. not (g.gate == gate)) held
+    rest : List A
+    rest = filter (λ y. not (key y == gone)) items
 
-    by-test : (b : Bool) → (h.gate == gate) ≡ b → find (λ g. g.gate == gate) rest ≡ None →
-        find (λ g. g.gate == gate) (cond (not b) (h ∷ rest) rest) ≡ None
+    by-test : (b : Bool) → (key x == gone) ≡ b → find (λ y. key y == gone) rest ≡ None →
+        find (λ y. key y == gone) (cond (not b) (x ∷ rest) rest) ≡ None
     by-test true is later = later
     by-test false is later =
-        ap (λ b. cond b (Some h) (find (λ g. g.gate == gate) rest)) is ∙ later
+        ap (λ b. cond b (Some x) (find (λ y. key y == gone) rest)) is ∙ later
 
+-- what is held for other numbers
 held-kept : (f : File) (gate at : ℕ) → at ≢ gate → held_at (without_held gate f) at ≡ held_at f at
 held-kept f gate at apart =
     ap (λ o. unwrap_or o (record { gate = 0; queue = 0; slots = [] }))
-    (find-kept gate at apart f.held)
+    (find-kept (λ (h : Held). h.gate) gate at apart f.held)
 
 held-gone : (f : File) (gate : ℕ) → (held_at (without_held gate f) gate).slots ≡ []
 held-gone f gate =
     ap (λ o. (unwrap_or {T = Held} o (record { gate = 0; queue = 0; slots = [] })).slots)
-    (find-gone gate f.held)
+    (find-gone (λ (h : Held). h.gate) gate f.held)
 
 none-held : (h : Held) → h.slots ≡ [] → devices_of h ≡ []
 none-held h none = ap (map (slot h.queue)) none
