@@ -40,6 +40,7 @@ pub mod ShownRegions
 pub mod ShownJobs
 pub mod ShownGates
 pub mod ShownTrims
+pub mod ShownEnds
 pub mod ShownParts
 pub mod ShownReads
 pub mod ShownLines

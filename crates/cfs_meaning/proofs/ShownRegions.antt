@@ -161,7 +161,7 @@ pub record IsAsLong (old new : Seen WordStep) : Type 0 where
   pub even : IsEvenRegion new
   pub long : length (words_of new) ≡ length (words_of old)
 
-still-word : (drive : Drive) (r : ℕ) (seen : Seen WordStep) (asked : List Asked) →
+pub still-word : (drive : Drive) (r : ℕ) (seen : Seen WordStep) (asked : List Asked) →
     IsAsLong (region_at drive r) seen → (d : ℕ) → HasWord drive d →
     HasWord (with_words r seen asked drive) d
 still-word drive r seen asked long d has = record {

@@ -30,7 +30,7 @@ use Rattle.cfs_meaning.proofs.Uncrashed.{after-up}
 
 -- ---- the core behind an event
 
-find-replaced : (new : File) (ino : ℕ) (files : List File) (f : File) → new.ino ≡ ino →
+pub find-replaced : (new : File) (ino : ℕ) (files : List File) (f : File) → new.ino ≡ ino →
     find (λ g. g.ino == ino) files ≡ Some f →
     find (λ g. g.ino == ino) (map (replaces new) files) ≡ Some new
 find-replaced new ino [] f own is = absurd (cc)
