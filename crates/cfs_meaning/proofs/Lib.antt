@@ -41,6 +41,8 @@ pub mod ShownJobs
 pub mod ShownGates
 pub mod ShownTrims
 pub mod ShownEnds
+pub mod ShownOpen
+pub mod ShownTurns
 pub mod ShownParts
 pub mod ShownReads
 pub mod ShownLines

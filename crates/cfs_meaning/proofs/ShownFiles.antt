@@ -41,7 +41,7 @@ files-both P Q R give (f ∷ files) all also =
     (give f all.0 also.0, files-both P Q R give files all.1 also.1)
 
 -- what holds of each file holds of one that is found
-in-files : (P : File → Type 0) (test : File → Bool) (files : List File) (f : File) →
+pub in-files : (P : File → Type 0) (test : File → Bool) (files : List File) (f : File) →
     find test files ≡ Some f → OfEachFile P files → P f
 in-files P test [] f is all = absurd (cc)
 in-files P test (g ∷ files) f is all =
@@ -73,7 +73,7 @@ none-replaced new (f ∷ files) none =
     ap (λ b. (if b then new else f) ∷ map (replaces new) files) (ne_eqb f.ino new.ino none.0)
     ∙ ap (λ rest. f ∷ rest) (none-replaced new files none.1)
 
-each-replaced : (Q : File → Type 0) (new : File) (files : List File) → Q new →
+pub each-replaced : (Q : File → Type 0) (new : File) (files : List File) → Q new →
     OfEachFile Q files → OfEachFile Q (map (replaces new) files)
 each-replaced Q new [] here all = tt
 each-replaced Q new (f ∷ files) here all =

@@ -156,6 +156,10 @@ keeps_shown (forms.Post c fd offset n) = true
 keeps_shown (forms.Serve c fd place) = true
 keeps_shown (forms.Dispatch ino place) = true
 keeps_shown (forms.Apply ino place) = true
+keeps_shown (forms.Finish ino place) = true
+keeps_shown (forms.Skip ino place) = true
+keeps_shown (forms.Trim ino) = true
+keeps_shown (forms.Settle ino) = true
 keeps_shown (forms.Queue c fd) = true
 keeps_shown (forms.Stop n) = true
 keeps_shown forms.Mount = true
@@ -172,10 +176,17 @@ abbrev pub IsRead : ℕ → ℕ → World → Type 0
 IsRead c fd world =
     (d : Descriptor) → descriptor_in world c fd ≡ Some d → NothingLive (core_in world d.grant.ino)
 
--- A step is made of a job of a file whose core has not ended, and what is read has nothing in its
--- way.
+-- no core has ended
+abbrev pub NoneHasEnded : World → Type 0
+NoneHasEnded world = OfEachFile (λ f. f.ended ≡ false) world.files
+
+-- A worker's line is about a file whose core has not ended, and what is read has nothing in its way.
 abbrev pub Suits : World → Form → Type 0
 Suits world (forms.Apply ino place) = (file_in world ino).ended ≡ false
+Suits world (forms.Finish ino place) = (file_in world ino).ended ≡ false
+Suits world (forms.Skip ino place) = (file_in world ino).ended ≡ false
+Suits world (forms.Settle ino) = (file_in world ino).ended ≡ false
+Suits world (forms.Trim ino) = NoneHasEnded world
 Suits world (forms.Read c fd n) = IsRead c fd world
 Suits world (forms.Pread c fd offset n) = IsRead c fd world
 Suits world (forms.Fsync c fd) = IsRead c fd world
