@@ -43,6 +43,7 @@ pub mod ShownTrims
 pub mod ShownEnds
 pub mod ShownOpen
 pub mod ShownTurns
+pub mod ShownWork
 pub mod ShownParts
 pub mod ShownReads
 pub mod ShownLines

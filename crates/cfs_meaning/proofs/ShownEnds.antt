@@ -123,7 +123,7 @@ record IsOut (x : World) (ino place : ℕ) : Type 0 where
   pub has : HasHead x ino place
   pub placed : IsPlaced x.drive (file_in x ino)
 
-out-found : (world : World) (ino place : ℕ) →
+pub out-found : (world : World) (ino place : ℕ) →
     is_out (track (core_in world ino).tracks place).state ≡ true →
     (f : File) × (find_file world ino ≡ Some f)
 out-found world ino place out =

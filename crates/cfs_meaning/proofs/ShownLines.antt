@@ -6,7 +6,6 @@ use Rattle.cfs_file.specs.declared.entry.Entry.{Entry}
 use Rattle.cfs_file.specs.declared.request.Request.{Request}
 use Rattle.cfs_file.specs.declared.request.Request.TheVariants as requests
 use Rattle.cfs_core.specs.declared.event.Event.TheVariants as events
-use Rattle.cfs_medium.proofs.QuietEvents.{quiet-events-show}
 use Rattle.cfs_medium.proofs.ReadEvents.{reads-may-come}
 use Rattle.cfs_pmem.specs.declared.trace.Asked.TheVariants.{Stopped}
 use Rattle.cfs_print.specs.declared.printed.Printed.{Printed}
@@ -29,12 +28,13 @@ use Rattle.cfs_meaning.proofs.Hoare.{Leaves, leave-changes, leave-end, leave-eve
 use Rattle.cfs_meaning.proofs.Hoare.{leave-refuse, leave-then, leave-weaker}
 use Rattle.cfs_meaning.proofs.Lines.{mount-up, only-mount}
 use Rattle.cfs_meaning.proofs.ShownJobs.{AtWork, apply-shown}
-use Rattle.cfs_meaning.proofs.ShownFiles.{asked-shown, event-shown, file-shown, still-within}
-use Rattle.cfs_meaning.proofs.ShownNeeds.{passed-equipped}
+use Rattle.cfs_meaning.proofs.ShownFiles.{asked-shown, event-shown}
 use Rattle.cfs_meaning.proofs.ShownParts.{Keeps, any-give, any-known, any-look, any-refuse}
-use Rattle.cfs_meaning.proofs.ShownParts.{keep-told, keep-up, moved-shown, same-shown}
+use Rattle.cfs_meaning.proofs.ShownParts.{keep-dispatch, keep-told, keep-up, moved-shown}
+use Rattle.cfs_meaning.proofs.ShownParts.{same-shown}
 use Rattle.cfs_meaning.proofs.ShownReads.{read-line, serve-line, sync-line}
 use Rattle.cfs_meaning.proofs.ShownTurns.{finish-line, settle-line, skip-line, trim-line}
+use Rattle.cfs_meaning.proofs.ShownWork.{drain-shown, turn-shown}
 use Rattle.cfs_meaning.proofs.Total.{IfEnds}
 
 keep-seek : (d : Descriptor) (c : ℕ) (seek : Seek) → Keeps (lseek d c seek)
@@ -79,22 +79,6 @@ keep-read d c line request =
 keep-post : (d : Descriptor) (c line : ℕ) (request : Request) → Keeps (post d c line request)
 keep-post d c line request =
     leave-then (keep-read d c line request) (λ place. any-give)
-
-passed-shown : (ino place n : ℕ) (world : World) → IsShown world →
-    IsShown (with_file (with_passed place n (file_in world ino)) world)
-passed-shown ino place n world shown =
-    file-shown world ino (with_passed place n (file_in world ino))
-    (still-within (core_in world ino) (with_passed place n (file_in world ino)).passed
-    (file_in world ino)) (λ old. old)
-    (passed-equipped (file_in world ino) (with_passed place n (file_in world ino)).passed) shown
-
-keep-dispatch : (ino place : ℕ) → Keeps (dispatch ino place)
-keep-dispatch ino place =
-    leave-then (leave-event (λ w shown may_be.
-    event-shown w ino (events.Dispatch place) may_be refl
-    (λ i core devices shows allowed.
-    quiet-events-show i core (events.Dispatch place) devices shows refl allowed) shown)) (λ u.
-    leave-changes (λ w shown. passed-shown ino place 0 w shown))
 
 keep-dispatch-by : (ino place : ℕ) (v : Verdict) → Keeps (dispatch_by ino place v)
 keep-dispatch-by ino place Absent = leave-end (λ w holds. holds)
@@ -173,6 +157,8 @@ asks_more (forms.Finish ino place) = true
 asks_more (forms.Skip ino place) = true
 asks_more (forms.Trim ino) = true
 asks_more (forms.Settle ino) = true
+asks_more forms.Turn = true
+asks_more forms.Drain = true
 asks_more (forms.Read c fd n) = true
 asks_more (forms.Pread c fd offset n) = true
 asks_more (forms.Fsync c fd) = true
@@ -198,6 +184,8 @@ keep-line line (forms.Finish ino place) keeps other more = absurd (cc)
 keep-line line (forms.Skip ino place) keeps other more = absurd (cc)
 keep-line line (forms.Trim ino) keeps other more = absurd (cc)
 keep-line line (forms.Settle ino) keeps other more = absurd (cc)
+keep-line line forms.Turn keeps other more = absurd (cc)
+keep-line line forms.Drain keeps other more = absurd (cc)
 keep-line line (forms.Read c fd n) keeps other more = absurd (cc)
 keep-line line (forms.Pread c fd offset n) keeps other more = absurd (cc)
 keep-line line (forms.Fsync c fd) keeps other more = absurd (cc)
@@ -228,6 +216,12 @@ more-line line (forms.Settle ino) old end new is of reached shown way =
     (record { shown = shown; reached = reached; goes_on = of }) way)
 more-line line (forms.Trim ino) old end new is of reached shown way =
     shown-ends end new ((leave-up (λ w all. all.shown) (trim-line ino)).by old end new
+    (record { shown = shown; reached = reached; open_ = of }) way)
+more-line line forms.Turn old end new is of reached shown way =
+    shown-ends end new ((leave-up (λ w all. all.shown) turn-shown).by old end new
+    (record { shown = shown; reached = reached; open_ = of }) way)
+more-line line forms.Drain old end new is of reached shown way =
+    shown-ends end new ((leave-up (λ w all. all.shown) drain-shown).by old end new
     (record { shown = shown; reached = reached; open_ = of }) way)
 more-line line (forms.Read c fd n) old end new is of reached shown way =
     shown-ends end new ((read-line c fd line (λ d. requests.Read d.position (most_read n)) true).by

@@ -1,6 +1,6 @@
 -- What is done to a file's devices ends no core.
-use Rattle.std.proofs.Common.{◌≡◌, ℕ, Bool, true, false, not, Option, Some, None, List, [], ◌∷◌, map}
-use Rattle.std.proofs.Common.{replicate, refl, sym, ap, ◌∙◌, subst}
+use Rattle.std.proofs.Common.{◌≡◌, ℕ, zero, suc, Bool, true, false, Option, Some, None, List, [], ◌∷◌}
+use Rattle.std.proofs.Common.{replicate, refl, ap, ◌∙◌}
 use Rattle.std.specs.Prelude.{Result, Ok, Err, find, unwrap_or, ◌==◌}
 use Rattle.cfs_core.specs.declared.doubt.Doubt.{Doubt}
 use Rattle.cfs_core.specs.declared.event.Event.{Event}
@@ -73,12 +73,13 @@ pub leave-mends : {A : Type 0} {P E F : World → Type 0} {Q : A → World → T
     ((w : World) → E w → F w) → Leaves P Q F (Mends way mend)
 leave-mends one other left = record { by = mended one other left }
 
-pub leave-each : {A : Type 0} {P E : World → Type 0} (items : List A) {way : A → Way (Unit {0})} →
-    ((a : A) → Leaves P (λ u. P) E (way a)) → ((w : World) → P w → E w) →
-    Leaves P (λ u. P) E (each items way)
-leave-each [] one left = leave-give (λ w holds. holds)
-leave-each {P = P} (a ∷ items) one left =
-    leave-then {Q = λ u. P} (one a) (λ u. leave-each items one left)
+-- so many times
+pub leave-replicate : {A : Type 0} {P E : World → Type 0} (n : ℕ) (a : A)
+    {way : A → Way (Unit {0})} → Leaves P (λ u. P) E (way a) →
+    Leaves P (λ u. P) E (each (replicate n a) way)
+leave-replicate zero a one = leave-give (λ w holds. holds)
+leave-replicate {P = P} (suc n) a one =
+    leave-then {Q = λ u. P} one (λ u. leave-replicate n a one)
 
 -- ---- files that have not ended
 
@@ -92,7 +93,7 @@ open-file w ino open_ = by-find (find_file w ino) refl
         ap (λ o. (unwrap_or o (new_file 0 0)).ended) is
         ∙ found-in (λ g. g.ended ≡ false) w ino f is open_
 
-open-with : (w : World) (new : File) → new.ended ≡ false → NoneHasEnded w →
+pub open-with : (w : World) (new : File) → new.ended ≡ false → NoneHasEnded w →
     NoneHasEnded (with_file new w)
 open-with w new here open_ = each-replaced (λ g. g.ended ≡ false) new w.files here open_
 

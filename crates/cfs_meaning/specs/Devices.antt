@@ -160,6 +160,8 @@ keeps_shown (forms.Finish ino place) = true
 keeps_shown (forms.Skip ino place) = true
 keeps_shown (forms.Trim ino) = true
 keeps_shown (forms.Settle ino) = true
+keeps_shown forms.Turn = true
+keeps_shown forms.Drain = true
 keeps_shown (forms.Queue c fd) = true
 keeps_shown (forms.Stop n) = true
 keeps_shown forms.Mount = true
@@ -180,13 +182,15 @@ IsRead c fd world =
 abbrev pub NoneHasEnded : World → Type 0
 NoneHasEnded world = OfEachFile (λ f. f.ended ≡ false) world.files
 
--- A worker's line is about a file whose core has not ended, and what is read has nothing in its way.
+-- A worker's line is about files whose cores have not ended, and what is read has nothing in its way.
 abbrev pub Suits : World → Form → Type 0
 Suits world (forms.Apply ino place) = (file_in world ino).ended ≡ false
 Suits world (forms.Finish ino place) = (file_in world ino).ended ≡ false
 Suits world (forms.Skip ino place) = (file_in world ino).ended ≡ false
 Suits world (forms.Settle ino) = (file_in world ino).ended ≡ false
 Suits world (forms.Trim ino) = NoneHasEnded world
+Suits world forms.Turn = NoneHasEnded world
+Suits world forms.Drain = NoneHasEnded world
 Suits world (forms.Read c fd n) = IsRead c fd world
 Suits world (forms.Pread c fd offset n) = IsRead c fd world
 Suits world (forms.Fsync c fd) = IsRead c fd world
