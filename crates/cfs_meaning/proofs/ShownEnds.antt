@@ -1,8 +1,8 @@
 -- A job ends: that keeps a world shown by its devices.
-use Rattle.std.proofs.Common.{◌≡◌, ◌≢◌, ◌⊎◌, ℕ, ◌+◌, ◌-◌, ◌<◌, ◌≤◌, Bool, true, false, not, ◌&&◌, ◌||◌}
-use Rattle.std.proofs.Common.{Option, Some, None, List, [], ◌∷◌, ◌++◌, length, map, get_or, set, inl}
+use Rattle.std.proofs.Common.{◌≡◌, ℕ, ◌+◌, ◌-◌, ◌<◌, ◌≤◌, Bool, true, false, not, ◌&&◌, ◌||◌}
+use Rattle.std.proofs.Common.{Some, List, [], ◌∷◌, ◌++◌, length, map, get_or, set, inl}
 use Rattle.std.proofs.Common.{inr, refl, sym, ap, ◌∙◌, subst, if◌then◌else◌, arith}
-use Rattle.std.specs.Prelude.{Ok, Err, ◌==◌, find, unwrap_or, max}
+use Rattle.std.specs.Prelude.{Ok, Err, ◌==◌, unwrap_or}
 use Rattle.std.proofs.lemmas.Bool.{and_from, and_parts, eq-eqb, eqb-true, or_right}
 use Rattle.std.proofs.lemmas.List.{get_or-set_same, set-set}
 use Rattle.cfs_file.specs.declared.span.Span.{Span}
@@ -19,12 +19,12 @@ use Rattle.cfs_core.specs.declared.inode_core.Core.{Core}
 use Rattle.cfs_core.specs.declared.state.State.{State}
 use Rattle.cfs_core.specs.declared.state.State.TheVariants.{Closed, Noop, Out, Unserved, Waiting}
 use Rattle.cfs_core.specs.declared.track.Track.{Track}
-use Rattle.cfs_core.specs.After.{after, retired}
+use Rattle.cfs_core.specs.After.{after}
 use Rattle.cfs_core.specs.Good.{IsGood}
-use Rattle.cfs_core.specs.May.{case, ends_well, is_in_phase, is_size_set, keeps_gate, keeps_size, may}
-use Rattle.cfs_core.specs.May.{may_finish, stands_at}
+use Rattle.cfs_core.specs.May.{case, is_in_phase, is_size_set, keeps_gate, may}
+use Rattle.cfs_core.specs.May.{stands_at}
 use Rattle.cfs_core.specs.Medium.{is_size}
-use Rattle.cfs_core.specs.Words.{blank, is_live, is_off, is_on, is_out, is_through, sized, track}
+use Rattle.cfs_core.specs.Words.{blank, is_off, is_out, is_through, sized, track}
 use Rattle.cfs_core.proofs.Alive.{out_lives}
 use Rattle.cfs_core.proofs.Goods.{good-kept}
 use Rattle.cfs_core.proofs.Order.{is_query_state, is_query_track, some_place, track_is}
@@ -48,19 +48,20 @@ use Rattle.cfs_medium.proofs.SlotEvents.{holding-same, within_place}
 use Rattle.cfs_meaning.specs.Drive.{Attempt, Drive, Word, attempt, is_allowed, made, noted, refused}
 use Rattle.cfs_meaning.specs.Drive.{region_at, word_refused}
 use Rattle.cfs_meaning.specs.Steps.{size_word}
-use Rattle.cfs_meaning.specs.World.{File, World, core_in, devices_of, file_in, find_file, head_of}
+use Rattle.cfs_meaning.specs.World.{File, World, core_in, file_in, find_file, head_of}
 use Rattle.cfs_meaning.specs.World.{held_at, new_file, replaces, with_core}
-use Rattle.cfs_meaning.specs.Devices.{HasWord, IsEquipped, IsEvenRegion, IsFileShown, IsPlaced}
+use Rattle.cfs_meaning.specs.Devices.{HasWord, IsEvenRegion, IsFileShown, IsPlaced}
 use Rattle.cfs_meaning.specs.Devices.{IsShown, devices_of_file, needs_slots}
-use Rattle.cfs_meaning.specs.Inode.{back, back_unless, close_or_apply, come_back, finish, finish_with}
+use Rattle.cfs_meaning.specs.Inode.{back, back_unless, close_or_apply, finish, finish_with}
 use Rattle.cfs_meaning.specs.Inode.{has_more, is_size_right, retire, set_size}
 use Rattle.cfs_meaning.specs.Ways.{when}
 use Rattle.cfs_meaning.proofs.Hoare.{Leaves, leave-changes, leave-end, leave-event, leave-give}
 use Rattle.cfs_meaning.proofs.Hoare.{leave-look, leave-then, leave-tries, leave-weaker}
 use Rattle.cfs_meaning.proofs.ShownFiles.{event-shown, file-shown, found-in, found-number}
 use Rattle.cfs_meaning.proofs.ShownFiles.{itself-replaced, still-within}
-use Rattle.cfs_meaning.proofs.ShownGates.{EndsSet, IsClosing, IsComing, IsGone, Sets, answer_of}
-use Rattle.cfs_meaning.proofs.ShownGates.{back-shown, beside-doubt, ends-long, equipped-of, found-by}
+use Rattle.cfs_meaning.proofs.ShownGates.{IsClosing, IsComing, IsGone, Sets}
+use Rattle.cfs_meaning.proofs.ShownGates.{back-shown, beside-doubt, ends-long, equipped-of}
+use Rattle.cfs_meaning.proofs.ShownGates.{found-by}
 use Rattle.cfs_meaning.proofs.ShownGates.{leave-close, reached-of, retired-gone, sets, shows-of}
 use Rattle.cfs_meaning.proofs.ShownJobs.{AtWork}
 use Rattle.cfs_meaning.proofs.ShownNeeds.{NeedsLess, less-after, less-equipped}
@@ -325,7 +326,8 @@ record IsRefused (ino place : ℕ) (size : SizeEnd) (w : World) : Type 0 where
 
 back-comes : (ino place : ℕ) (size : SizeEnd) (w : World) → IsRefused ino place size w →
     may (core_in w ino) (events.Finish place (ends.Back size
-    (track (core_in w ino).tracks place).gate (track (core_in w ino).tracks place).applied)) ≡ true →
+    (track (core_in w ino).tracks place).gate (track (core_in w ino).tracks place).applied)) ≡
+    true →
     IsShown (with_core ino (after (core_in w ino) (events.Finish place (ends.Back size
     (track (core_in w ino).tracks place).gate (track (core_in w ino).tracks place).applied))) w)
 back-comes ino place size w refused may_be =
@@ -531,9 +533,14 @@ persist-size x w ino place written =
     subst (λ v. IsPersisted ino place x
     (attempt (Word (word_at x ino) persist ∷ []) v.drive).whole
     (with_attempt (Word (word_at x ino) persist ∷ []) v)) (sym written.1.1)
-    (let one = one-word r persist middle in
-    (written.0, (one.0, ap (λ d. record x { drive = d })
-    (one.1 ∙ again (attempt (Word r persist ∷ []) middle).whole one.0))))
+    (let one = one-word r persist middle in (
+      written.0,
+      (
+        one.0,
+        ap (λ d. record x { drive = d })
+            (one.1 ∙ again (attempt (Word r persist ∷ []) middle).whole one.0),
+      ),
+    ))
   where
     r : ℕ
     r = word_at x ino

@@ -1,13 +1,13 @@
 -- A gate is closed, and its slots come back: that keeps a world shown by its devices.
-use Rattle.std.proofs.Common.{◌≡◌, ◌≢◌, ◌⊎◌, ℕ, ◌+◌, ◌-◌, ◌<◌, ◌≤◌, Bool, true, false, not, ◌&&◌, ◌||◌}
-use Rattle.std.proofs.Common.{Option, Some, None, List, [], ◌∷◌, length, map, filter, reverse, get_or}
+use Rattle.std.proofs.Common.{◌≡◌, ◌≢◌, ◌⊎◌, ℕ, ◌+◌, ◌-◌, ◌<◌, ◌≤◌, Bool, true, false, not}
+use Rattle.std.proofs.Common.{◌&&◌, ◌||◌}
+use Rattle.std.proofs.Common.{Option, Some, None, List, [], ◌∷◌, length, map, filter, get_or}
 use Rattle.std.proofs.Common.{set, inl, inr, refl, sym, ap, ◌∙◌, subst, cond, if◌then◌else◌, arith}
 use Rattle.std.specs.Prelude.{Ok, Err, ◌==◌, find, unwrap_or}
 use Rattle.std.proofs.Math.Path.{fun_ext}
 use Rattle.std.proofs.lemmas.Bool.{and_parts, eq-eqb, eqb-false, eqb-true, ne_eqb}
 use Rattle.std.proofs.lemmas.List.{get_or-set_same, length-set, set-set}
 use Rattle.cfs_core.specs.declared.doubt.Doubt.{Doubt}
-use Rattle.cfs_core.specs.declared.event.Event.{Event}
 use Rattle.cfs_core.specs.declared.event.Event.TheVariants as events
 use Rattle.cfs_core.specs.declared.flag.Flag.{Flag}
 use Rattle.cfs_core.specs.declared.flag.Flag.TheVariants.{Off, On, Unsure}
@@ -17,18 +17,17 @@ use Rattle.cfs_core.specs.declared.state.State.TheVariants.{Closed, Noop, Out, U
 use Rattle.cfs_core.specs.declared.track.Track.{Track}
 use Rattle.cfs_core.specs.After.{after, retired, with_track}
 use Rattle.cfs_core.specs.Good.{IsGood}
-use Rattle.cfs_core.specs.May.{case, may}
+use Rattle.cfs_core.specs.May.{may}
 use Rattle.cfs_core.specs.Words.{blank, can_be, is_live, is_noop, is_off, track}
 use Rattle.cfs_core.proofs.Goods.{good-kept}
 use Rattle.cfs_core.proofs.Kept.{IsKept}
-use Rattle.cfs_core.proofs.Order.{is_query_state, is_query_track, same_or_not, some_place, track_is}
+use Rattle.cfs_core.proofs.Order.{is_query_state, is_query_track, some_place, track_is}
 use Rattle.cfs_core_laws.specs.Reached.{IsReached}
 use Rattle.cfs_core_laws.specs.Reached as reaching
 use Rattle.cfs_core_laws.proofs.Whole.{whole}
 use Rattle.cfs_pmem.specs.declared.trace.Asked.{Asked}
 use Rattle.cfs_pmem.specs.declared.trace.Asked.TheVariants.{Step}
-use Rattle.cfs_pmem.specs.Images.{IsImage, Seen, WordStep, failed, kept, words_of, wrote}
-use Rattle.cfs_pmem.specs.Objects.{IsEachImage}
+use Rattle.cfs_pmem.specs.Images.{Seen, WordStep, failed, kept, words_of, wrote}
 use Rattle.cfs_pmem.specs.WordOps.{SetsWord, SettingStopped, persist, put}
 use Rattle.cfs_pmem.proofs.AskLemmas.{asks_one}
 use Rattle.cfs_pmem.proofs.WordLemmas.{set_at_persist, set_at_write, set_whole}
@@ -50,7 +49,6 @@ use Rattle.cfs_meaning.specs.Devices.{IsEquipped, IsEvenRegion, IsFileShown, IsS
 use Rattle.cfs_meaning.specs.Devices.{devices_of_file, needs_slots}
 use Rattle.cfs_meaning.specs.Inode.{come_back, settle, settle_doubt, skip, try_to_close}
 use Rattle.cfs_meaning.specs.Inode.{without_held}
-use Rattle.cfs_meaning.specs.Laws.{AreReached}
 use Rattle.cfs_meaning.specs.Ways.{unless_fault}
 use Rattle.cfs_meaning.proofs.Hoare.{Leaves, leave-changes, leave-end, leave-event, leave-give}
 use Rattle.cfs_meaning.proofs.Hoare.{leave-look, leave-then, leave-tries, leave-weaker}
@@ -108,18 +106,18 @@ set-at r at word drive low = by-first (is_allowed (Word r (put at word)) drive)
       (noted (Word r persist) true first).asked,
       kept (wrote at word old),
       ap (λ (regions : List (Seen WordStep)). record drive {
-          asked = (noted (Word r persist) true first).asked;
-          regions = regions;
-        }) (again (λ s. kept s)),
+        asked = (noted (Word r persist) true first).asked;
+        regions = regions;
+      }) (again (λ s. kept s)),
       refl,
     )
     by-second false = (
       (noted (Word r persist) false first).asked,
       failed (wrote at word old),
       ap (λ (regions : List (Seen WordStep)). record drive {
-          asked = (noted (Word r persist) false first).asked;
-          regions = regions;
-        }) (again (λ s. failed s)),
+        asked = (noted (Word r persist) false first).asked;
+        regions = regions;
+      }) (again (λ s. failed s)),
       inr refl,
     )
 
@@ -406,9 +404,12 @@ pub leave-close : (P : World → Type 0) (E : World → Type 0) (ino gate : ℕ)
 leave-close P E ino gate heads =
     leave-look (λ x.
     leave-tries (λ w holds.
-    let has = heads w holds.1 in
-    (w, holds.1, closing w ino gate has (head_of (held_at (file_in x ino) gate))
-    (ap (λ v. head_of (held_at (file_in v ino) gate)) (sym holds.0) ∙ has.number))))
+    let has = heads w holds.1 in (
+      w,
+      holds.1,
+      closing w ino gate has (head_of (held_at (file_in x ino) gate))
+          (ap (λ v. head_of (held_at (file_in v ino) gate)) (sym holds.0) ∙ has.number),
+    )))
 
 -- the slots of the request, by their head
 pub here-is : (x : World) (ino gate : ℕ) (has : HasHead x ino gate) →

@@ -14,9 +14,8 @@ use Rattle.cfs_script.specs.declared.form.Form.TheVariants as forms
 use Rattle.cfs_words.specs.declared.device.Device.{Device}
 use Rattle.cfs_words.specs.declared.seek.Seek.{Seek}
 use Rattle.cfs_meaning.specs.World.{Descriptor, Down, Failed, Phase, Up, World, core_in}
-use Rattle.cfs_meaning.specs.World.{descriptor_in, file_in, with_file}
-use Rattle.cfs_meaning.specs.Inode.{Absent, Behind, Ready, Verdict, admit_read, dispatch, verdict}
-use Rattle.cfs_meaning.specs.Inode.{with_passed}
+use Rattle.cfs_meaning.specs.World.{descriptor_in}
+use Rattle.cfs_meaning.specs.Inode.{Absent, Behind, Ready, Verdict, admit_read, verdict}
 use Rattle.cfs_meaning.specs.Files.{has_no_power, list_queue, lseek, most_read, opened}
 use Rattle.cfs_meaning.specs.Files.{opened_to_read, post}
 use Rattle.cfs_meaning.specs.Workers.{apply_line, dispatch_by, dispatch_line, there}

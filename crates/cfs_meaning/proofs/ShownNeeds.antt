@@ -1,6 +1,6 @@
 -- Which events leave a core that needs no device more.
-use Rattle.std.proofs.Common.{◌≡◌, ℕ, zero, suc, ◌+◌, ◌-◌, ◌<◌, Bool, true, false, not, ◌&&◌, ◌||◌}
-use Rattle.std.proofs.Common.{Option, Some, None, List, [], ◌∷◌, ◌++◌, length, get_or, set, inl, inr}
+use Rattle.std.proofs.Common.{◌≡◌, ℕ, zero, suc, ◌-◌, Bool, true, false, not, ◌&&◌, ◌||◌}
+use Rattle.std.proofs.Common.{Some, None, List, [], ◌∷◌, ◌++◌, get_or, set, inl, inr}
 use Rattle.std.proofs.Common.{refl, sym, ap, ◌∙◌, subst, if◌then◌else◌}
 use Rattle.std.specs.Prelude.{◌==◌, nat_lt}
 use Rattle.std.proofs.lemmas.Bool.{and_parts, eqb-false, eqb-true}
@@ -17,9 +17,8 @@ use Rattle.cfs_core.specs.declared.inode_core.Core.{Core}
 use Rattle.cfs_core.specs.declared.state.State.{State}
 use Rattle.cfs_core.specs.declared.state.State.TheVariants.{Closed}
 use Rattle.cfs_core.specs.declared.track.Track.{Track}
-use Rattle.cfs_core.specs.After.{after, marked, more_to_come, put_back, query_track, retired}
-use Rattle.cfs_core.specs.Jobs.{next_job, state_flushed, state_written}
-use Rattle.cfs_core.specs.May.{case, ends_well, is_in_phase, may, may_trim, span_now}
+use Rattle.cfs_core.specs.After.{after, marked, query_track, retired}
+use Rattle.cfs_core.specs.May.{case, is_in_phase, may, may_trim, span_now}
 use Rattle.cfs_core.specs.Words.{blank, has_block, is_live, is_noop, is_off, is_out, is_unserved}
 use Rattle.cfs_core.specs.Words.{is_waiting, track}
 use Rattle.cfs_core.proofs.Alive.{block_lives, out_lives, waiting_lives}

@@ -1,26 +1,27 @@
 -- What is done to a file's devices ends no core.
-use Rattle.std.proofs.Common.{◌≡◌, ℕ, zero, suc, Bool, true, false, Option, Some, None, List, [], ◌∷◌}
+use Rattle.std.proofs.Common.{◌≡◌, ℕ, zero, suc, Bool, true, false, Option, Some, None, List}
 use Rattle.std.proofs.Common.{replicate, refl, ap, ◌∙◌}
-use Rattle.std.specs.Prelude.{Result, Ok, Err, find, unwrap_or, ◌==◌}
-use Rattle.cfs_core.specs.declared.doubt.Doubt.{Doubt}
+use Rattle.std.specs.Prelude.{Result, Ok, Err, unwrap_or}
 use Rattle.cfs_core.specs.declared.event.Event.{Event}
 use Rattle.cfs_core.specs.declared.event.SizeEnd.{SizeEnd}
 use Rattle.cfs_core.specs.declared.state.Lease.{Lease}
 use Rattle.cfs_core.specs.After.{after}
 use Rattle.cfs_meaning.specs.Drive.{Op}
 use Rattle.cfs_meaning.specs.World.{File, World, core_in, file_in, find_file, new_file, with_file}
-use Rattle.cfs_meaning.specs.Devices.{NoneHasEnded, OfEachFile}
+use Rattle.cfs_meaning.specs.Devices.{NoneHasEnded}
 use Rattle.cfs_meaning.specs.Inode.{apply, back, back_unless, close_or_apply, come_back, dispatch}
-use Rattle.cfs_meaning.specs.Inode.{event, finish, finish_with, flush_block, give_block, next_step}
-use Rattle.cfs_meaning.specs.Inode.{retire, run_job, set_size, settle, settle_doubt, skip, trim}
+use Rattle.cfs_meaning.specs.Inode.{event, finish, finish_with, flush_block, next_step}
+use Rattle.cfs_meaning.specs.Inode.{retire, set_size, skip, trim}
 use Rattle.cfs_meaning.specs.Inode.{trim_at, try_to_close, with_passed, without_block, without_held}
 use Rattle.cfs_meaning.specs.Inode.{write_block}
-use Rattle.cfs_meaning.specs.Ways.{Changes, Fault, Halt, Mends, Now, Repeats, Says, Tries, Waits, Way}
+use Rattle.cfs_meaning.specs.Ways.{Changes, Fault, Halt, Mends, Now, Repeats, Says, Tries}
+use Rattle.cfs_meaning.specs.Ways.{Waits, Way}
 use Rattle.cfs_meaning.specs.Ways.{breaks, breaks_later, counts, each, end_with, give, mends}
 use Rattle.cfs_meaning.specs.Ways.{rests, says, steps}
 use Rattle.cfs_meaning.specs.Ways.{unless_fault, waits, well, when, ◌>>=◌}
 use Rattle.cfs_meaning.proofs.Hoare.{Leaves, leave-changes, leave-end, leave-event, leave-give}
-use Rattle.cfs_meaning.proofs.Hoare.{leave-look, leave-then, leave-tries, leave-unless, leave-weaker}
+use Rattle.cfs_meaning.proofs.Hoare.{leave-look, leave-then, leave-tries, leave-unless}
+use Rattle.cfs_meaning.proofs.Hoare.{leave-weaker}
 use Rattle.cfs_meaning.proofs.ShownFiles.{each-replaced, found-in}
 use Rattle.cfs_meaning.proofs.Total.{IfEnds}
 
@@ -75,11 +76,11 @@ leave-mends one other left = record { by = mended one other left }
 
 -- so many times
 pub leave-replicate : {A : Type 0} {P E : World → Type 0} (n : ℕ) (a : A)
-    {way : A → Way (Unit {0})} → Leaves P (λ u. P) E (way a) →
+    (way : A → Way (Unit {0})) → Leaves P (λ u. P) E (way a) →
     Leaves P (λ u. P) E (each (replicate n a) way)
-leave-replicate zero a one = leave-give (λ w holds. holds)
-leave-replicate {P = P} (suc n) a one =
-    leave-then {Q = λ u. P} one (λ u. leave-replicate n a one)
+leave-replicate zero a way one = leave-give (λ w holds. holds)
+leave-replicate {P = P} (suc n) a way one =
+    leave-then {Q = λ u. P} one (λ u. leave-replicate n a way one)
 
 -- ---- files that have not ended
 

@@ -1,6 +1,6 @@
 -- One region changes, of a world that its devices show.
-use Rattle.std.proofs.Common.{◌≡◌, ◌≢◌, ℕ, zero, suc, ◌+◌, ◌*◌, ◌<◌, ◌≤◌, Bool, true, false, Option}
-use Rattle.std.proofs.Common.{Some, None, List, [], ◌∷◌, length, map, take, get_or, set, inl, inr}
+use Rattle.std.proofs.Common.{◌≡◌, ◌≢◌, ℕ, ◌<◌, ◌≤◌, Bool, true, false}
+use Rattle.std.proofs.Common.{Some, List, [], ◌∷◌, length, map, get_or, set, inl, inr}
 use Rattle.std.proofs.Common.{refl, sym, ap, ◌∙◌, subst, if◌then◌else◌, arith}
 use Rattle.std.specs.Prelude.{◌==◌, unwrap_or}
 use Rattle.std.specs.List.{All, Contains}
@@ -12,12 +12,9 @@ use Rattle.cfs_pmem.specs.declared.trace.Asked.{Asked}
 use Rattle.cfs_pmem.specs.Images.{IsImage, Seen, WordStep, words_of}
 use Rattle.cfs_pmem.specs.Objects.{IsEachImage}
 use Rattle.cfs_medium.specs.Shows.{Shows}
-use Rattle.cfs_medium.specs.World as media
 use Rattle.cfs_medium.specs.WorldCalls.{with_size, with_slots}
 use Rattle.cfs_medium.proofs.Has.{Has, contains-had, has-contained}
-use Rattle.cfs_names.specs.Recovered.{IsTreeOr, recovered}
 use Rattle.cfs_meaning.specs.Drive.{Drive, region_at}
-use Rattle.cfs_meaning.specs.NameSteps.{tree_of}
 use Rattle.cfs_meaning.specs.Steps.{size_word, slot}
 use Rattle.cfs_meaning.specs.World.{File, Held, World, core_in, devices_of, file_in, find_file}
 use Rattle.cfs_meaning.specs.World.{head_of, held_at, new_file, with_core}
@@ -72,7 +69,8 @@ pub record IsAside (r : ℕ) (g : File) : Type 0 where
   pub size : size_word g.rec ≢ r
   pub slots : (gate d : ℕ) → Contains (devices_of (held_at g gate)) d → d ≢ r
 
-pub others-regions : (drive : Drive) (r : ℕ) (seen : Seen WordStep) (asked : List Asked) (g : File) →
+pub others-regions : (drive : Drive) (r : ℕ) (seen : Seen WordStep) (asked : List Asked)
+    (g : File) →
     IsAside r g → devices_of_file (with_words r seen asked drive) g ≡ devices_of_file drive g
 others-regions drive r seen asked g aside =
     ap (λ (s : Seen WordStep).
@@ -174,7 +172,8 @@ still-word drive r seen asked long d has = record {
         0 < length (words_of (region_at (with_words r seen asked drive) d))
     by-test true is =
         let same : d ≡ r = eqb-true d r is in
-        let low : r < length drive.regions = subst (λ n. n < length drive.regions) same has.within in
+        let low : r < length drive.regions =
+        subst (λ n. n < length drive.regions) same has.within in
         let word : 0 < length (words_of (region_at drive r)) =
         subst (λ n. 0 < length (words_of (region_at drive n))) same has.word in
         let longer : 0 < length (words_of seen) = (let as_long = long.long in
@@ -311,7 +310,8 @@ has-head world ino gate f found shown some =
 
 -- The head of a request becomes another region.
 pub head-shown : (world : World) (ino gate : ℕ) (seen : Seen WordStep) (core : Core)
-    (asked : List Asked) (f : File) → find_file world ino ≡ Some f → (has : HasHead world ino gate) →
+    (asked : List Asked) (f : File) → find_file world ino ≡ Some f →
+    (has : HasHead world ino gate) →
     IsAsLong (region_at world.drive has.r) seen →
     ((file_in world ino).ended ≡ false → Shows (file_in world ino).ino core
     (with_slots gate (seen ∷ map (region_at world.drive) has.tails)

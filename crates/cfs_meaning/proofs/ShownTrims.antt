@@ -1,6 +1,7 @@
 -- A block is given up: that keeps a world shown by its devices.
-use Rattle.std.proofs.Common.{◌≡◌, ◌≢◌, ◌⊎◌, ℕ, ◌+◌, ◌<◌, Bool, true, false, not, ◌&&◌, Option, Some}
-use Rattle.std.proofs.Common.{None, List, [], ◌∷◌, length, get_or, set, inl, inr, refl, sym, ap, ◌∙◌}
+use Rattle.std.proofs.Common.{◌≡◌, ◌≢◌, ◌⊎◌, ℕ, ◌+◌, ◌<◌, Bool, true, false, Option, Some}
+use Rattle.std.proofs.Common.{None, List, [], ◌∷◌, length, get_or, set, inl, inr, refl, sym, ap}
+use Rattle.std.proofs.Common.{◌∙◌}
 use Rattle.std.proofs.Common.{subst, if◌then◌else◌, arith, is_some, zero, suc, map}
 use Rattle.std.specs.Prelude.{Ok, Err, ◌==◌, find, unwrap_or, nat_lt, replicate}
 use Rattle.std.specs.List.{range_with_len}
@@ -10,12 +11,11 @@ use Rattle.std.proofs.lemmas.Bool.{and_parts, eqb-false, eqb-true, ltb-true}
 use Rattle.std.proofs.lemmas.List.{get_or-set_same, set-set}
 use Rattle.cfs_file.specs.declared.sizes.TheConstants.{FILE_BLOCKS}
 use Rattle.cfs_core.specs.declared.event.Event.TheVariants as events
-use Rattle.cfs_core.specs.declared.flag.Flag.{Flag}
-use Rattle.cfs_core.specs.declared.flag.Flag.TheVariants.{Off, Unsure}
+use Rattle.cfs_core.specs.declared.flag.Flag.TheVariants.{Off}
 use Rattle.cfs_core.specs.declared.inode_core.Core.{Core}
 use Rattle.cfs_core.specs.After.{after}
 use Rattle.cfs_core.specs.Good.{IsGood}
-use Rattle.cfs_core.specs.May.{is_in_phase, may, may_trim}
+use Rattle.cfs_core.specs.May.{may, may_trim}
 use Rattle.cfs_core.specs.Words.{can_be, is_off}
 use Rattle.cfs_core.proofs.Goods.{good-kept}
 use Rattle.cfs_core_laws.specs.Reached.{IsReached}
@@ -99,18 +99,18 @@ tag-at b tag drive low = by-first (is_allowed (Block b (put_tag tag)) drive)
       (noted (Block b flush) true first).asked,
       kept (retagged tag old),
       ap (λ (blocks : List (Seen BlockStep)). record drive {
-          asked = (noted (Block b flush) true first).asked;
-          blocks = blocks;
-        }) (again (λ s. kept s)),
+        asked = (noted (Block b flush) true first).asked;
+        blocks = blocks;
+      }) (again (λ s. kept s)),
       refl,
     )
     by-second false = (
       (noted (Block b flush) false first).asked,
       unflushed (retagged tag old),
       ap (λ (blocks : List (Seen BlockStep)). record drive {
-          asked = (noted (Block b flush) false first).asked;
-          blocks = blocks;
-        }) (again (λ s. unflushed s)),
+        asked = (noted (Block b flush) false first).asked;
+        blocks = blocks;
+      }) (again (λ s. unflushed s)),
       inr refl,
     )
 
@@ -408,9 +408,12 @@ trim-at-shown ino k =
     leave-look (λ y.
     leave-then {Q = λ ok w. (x : World) × AtTrim ino k x × (IsUntagging x ino k ok w)}
     (leave-tries (λ w holds.
-    let spare = spare-known w ino k holds.1 in
-    (w, holds.1, untagging w ino k spare (number_of y ino k)
-    (ap (λ v. number_of v ino k) (sym holds.0) ∙ ap (λ o. unwrap_or o 0) spare.here)))) (λ ok.
+    let spare = spare-known w ino k holds.1 in (
+      w,
+      holds.1,
+      untagging w ino k spare (number_of y ino k)
+          (ap (λ v. number_of v ino k) (sym holds.0) ∙ ap (λ o. unwrap_or o 0) spare.here),
+    ))) (λ ok.
     leave-then {Q = λ u w. IsUntagged ino k ok w}
     (leave-event (λ w holds may_be. trim-came holds.0 w ino k ok holds.1 holds.2 may_be)) (λ u.
     leave-then {Q = λ v w. IsFreeing w ino k} (unless ok) (λ v.

@@ -1,13 +1,12 @@
 -- The lines of workers keep a world shown by its devices.
-use Rattle.std.proofs.Common.{◌≡◌, ℕ, Bool, true, false, not, Option, Some, None, refl, sym, subst}
+use Rattle.std.proofs.Common.{◌≡◌, ℕ, Bool, true, false, not, refl, sym, subst}
 use Rattle.std.proofs.Common.{is_none}
-use Rattle.std.specs.Prelude.{Result, Ok, Err, nat_lt}
+use Rattle.std.specs.Prelude.{Result, Ok, Err}
 use Rattle.cfs_core.specs.declared.state.State.{State}
 use Rattle.cfs_core.specs.declared.state.State.TheVariants.{Closed, Noop, Out, Unserved, Waiting}
 use Rattle.cfs_core.specs.Words.{is_noop, is_out, track}
-use Rattle.cfs_print.specs.declared.printed.Printed.{Printed}
 use Rattle.cfs_meaning.specs.World.{World, core_in}
-use Rattle.cfs_meaning.specs.Inode.{finish, job_at, job_in, left_at, run_job, settle, skip, trim}
+use Rattle.cfs_meaning.specs.Inode.{job_in, trim}
 use Rattle.cfs_meaning.specs.Workers.{finish_line, settle_line, skip_line, there, trim_line}
 use Rattle.cfs_meaning.specs.Devices.{IsShown, NoneHasEnded}
 use Rattle.cfs_meaning.specs.Laws.{AreReached}

@@ -1,10 +1,10 @@
 -- Turns and drains keep a world shown by its devices.
-use Rattle.std.proofs.Common.{◌≡◌, ◌≢◌, ℕ, ◌+◌, ◌-◌, ◌≤◌, Bool, true, false, ◌&&◌, Option, Some, None}
-use Rattle.std.proofs.Common.{List, [], ◌∷◌, ◌++◌, length, map, filter, get_or, set, replicate, refl, sym}
-use Rattle.std.proofs.Common.{ap, ◌∙◌, subst, cond, if◌then◌else◌, is_some}
+use Rattle.std.proofs.Common.{◌≡◌, ◌≢◌, ℕ, ◌+◌, ◌-◌, Bool, true, false, ◌&&◌, Option, Some, None}
+use Rattle.std.proofs.Common.{List, [], ◌∷◌, ◌++◌, length, map, filter, get_or, set, refl, sym}
+use Rattle.std.proofs.Common.{ap, ◌∙◌, subst, cond, if◌then◌else◌}
 use Rattle.std.specs.Prelude.{◌==◌, find, unwrap_or, nat_lt}
 use Rattle.std.specs.List.{flat_map, range_with_len}
-use Rattle.std.proofs.lemmas.Bool.{and_parts, eq-eqb, eqb-false, eqb-true, ne_eqb}
+use Rattle.std.proofs.lemmas.Bool.{and_parts, eq-eqb, eqb-false, ne_eqb}
 use Rattle.cfs_file.specs.declared.sizes.TheConstants.{FILE_BLOCKS}
 use Rattle.cfs_core.specs.declared.event.Event.{Event}
 use Rattle.cfs_core.specs.declared.event.Event.TheVariants as events
@@ -21,11 +21,10 @@ use Rattle.cfs_core.specs.Words.{blank, has_block, is_noop, is_out, is_waiting, 
 use Rattle.cfs_core.proofs.Order.{some_place}
 use Rattle.cfs_core_laws.specs.Reached.{IsReached}
 use Rattle.cfs_medium.proofs.SlotEvents.{track-here, within_place}
-use Rattle.cfs_print.specs.declared.printed.Printed.{Printed}
 use Rattle.cfs_meaning.specs.World.{File, World, core_in, file_in, find_file, new_file, replaces}
 use Rattle.cfs_meaning.specs.World.{with_core, with_file}
-use Rattle.cfs_meaning.specs.Inode.{apply, back, dispatch, finish, flush_block, left_at, leases_at}
-use Rattle.cfs_meaning.specs.Inode.{next_step, run_job, skip, what_is_left, with_passed, write_block}
+use Rattle.cfs_meaning.specs.Inode.{apply, back, dispatch, finish, left_at}
+use Rattle.cfs_meaning.specs.Inode.{next_step, run_job, skip, what_is_left, with_passed}
 use Rattle.cfs_meaning.specs.Workers.{Item, best, chosen, comes_first, do_item, drain, files_there}
 use Rattle.cfs_meaning.specs.Workers.{is_ready, item, once_more, pass_over, pass_over_all, say_turn}
 use Rattle.cfs_meaning.specs.Workers.{take_turn, trim_each, turn, turn_line, work, work_at, work_of}
@@ -33,7 +32,8 @@ use Rattle.cfs_meaning.specs.Inode.{verdict}
 use Rattle.cfs_meaning.specs.Devices.{HaveOwnNumbers, IsShown, OfEachFile}
 use Rattle.cfs_meaning.specs.Ways.{choose, done, ◌>>◌}
 use Rattle.cfs_meaning.proofs.Hoare.{Leaves, leave-changes, leave-end, leave-event, leave-give}
-use Rattle.cfs_meaning.proofs.Hoare.{leave-look, leave-then, leave-tries, leave-unless, leave-weaker}
+use Rattle.cfs_meaning.proofs.Hoare.{leave-look, leave-then, leave-tries, leave-unless}
+use Rattle.cfs_meaning.proofs.Hoare.{leave-weaker}
 use Rattle.cfs_meaning.proofs.KeptInode.{kept-apply, kept-back, kept-dispatch, kept-finish}
 use Rattle.cfs_meaning.proofs.KeptInode.{kept-skip}
 use Rattle.cfs_meaning.proofs.Quiet.{quiet-passed}
@@ -255,7 +255,7 @@ job-all ino place =
     leave-then {Q = λ v. IsAllOut ino place}
     (leave-weaker {P = IsAllOut ino place} (λ w holds. holds.1) (λ v w q. q) (λ w e. e)
     (leave-mends
-    (leave-replicate (left_at x ino place) place (apply-all ino place)) (back-all ino place)
+    (leave-replicate (left_at x ino place) place _ (apply-all ino place)) (back-all ino place)
     (λ w all. all))) (λ v.
     finish-all ino place)))
 
@@ -435,9 +435,10 @@ noop-at w f same place =
     by-noop : (b : Bool) → is_noop (track f.core.tracks place).state ≡ b → (ready : Bool) →
         EachItem (IsTrulyNoop w)
         (if b then item f place true ∷ [] else (if ready then item f place false ∷ [] else []))
-    by-noop true is ready =
-        (λ noop. subst (λ (c : Core). is_noop (track c.tracks place).state ≡ true) (sym same) is,
-        tt)
+    by-noop true is ready = (
+      λ noop. subst (λ (c : Core). is_noop (track c.tracks place).state ≡ true) (sym same) is,
+      tt,
+    )
     by-noop false is true = (λ noop. absurd (cc), tt)
     by-noop false is false = tt
 
@@ -492,10 +493,13 @@ turn-all = leave-look (λ x. by-choice x (chosen (work x)) refl)
         let over = pass-all y (work w) w holds.1 in
         let chosen_is : chosen (work w) ≡ Some y =
         ap (λ v. chosen (work v)) holds.0 ∙ is in
-        let truly = each-chosen (IsTrulyNoop w) (work w) y (noops-are w holds.1.shown) chosen_is in
-        (over.all, λ noop.
-        subst (λ (c : Core). is_noop (track c.tracks y.place).state ≡ true)
-        (sym (over.cores y.ino)) (truly noop)))) (λ u.
+        let truly =
+        each-chosen (IsTrulyNoop w) (work w) y (noops-are w holds.1.shown) chosen_is in (
+          over.all,
+          λ noop.
+              subst (λ (c : Core). is_noop (track c.tracks y.place).state ≡ true)
+              (sym (over.cores y.ino)) (truly noop),
+        ))) (λ u.
         leave-then {Q = λ v. AllWork} (item-all y) (λ v. leave-give (λ w all. all)))
 
 pub turn-shown : Leaves AllWork (λ answer. IsShown) IsShown turn_line
@@ -517,7 +521,8 @@ trims-all (ino ∷ inos) freed =
 
 pub drain-shown : Leaves AllWork (λ answer. IsShown) IsShown drain
 drain-shown =
-    leave-weaker {P = AllWork} (λ w all. all) (λ answer w all. all.shown) (λ w all. all.shown)
+    leave-weaker {P = AllWork} {Q = λ answer. AllWork} (λ w all. all)
+    (λ answer w all. all.shown) (λ w all. all.shown)
     (leave-then {Q = λ turns. AllWork}
     (leave-repeats
     (leave-then {Q = λ o. AllWork} turn-all (λ o. leave-give (λ w all. all)))) (λ turns.

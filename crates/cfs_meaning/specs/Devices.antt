@@ -64,8 +64,8 @@ pub record HasWord (drive : Drive) (r : ℕ) : Type 0 where
   pub within : r < length drive.regions
   pub word : 0 < length (words_of (region_at drive r))
 
--- The file has a number and a size word. Its slots are some of the drive's regions, and the head of a
--- request is none of its tails. Its blocks are some of the drive's.
+-- The file has a number and a size word. Its slots are some of the drive's regions, and the head of
+-- a request is none of its tails. Its blocks are some of the drive's.
 pub record IsPlaced (drive : Drive) (f : File) : Type 0 where
   pub number : f.ino ≢ 0
   pub low : f.rec < 256
@@ -79,8 +79,8 @@ pub record IsPlaced (drive : Drive) (f : File) : Type 0 where
 abbrev pub needs_slots : Track → Bool
 needs_slots t = is_live t.state || not (is_off t.gate)
 
--- No crash came to the core. Each request that needs slots has them, and so has the one in doubt, and
--- a file block that may be tagged has a block.
+-- No crash came to the core. Each request that needs slots has them, and so has the one in doubt,
+-- and a file block that may be tagged has a block.
 pub record IsEquipped (f : File) : Type 0 where
   pub up : f.core.crashed ≡ false
   pub slots : (k : ℕ) → needs_slots (get_or f.core.tracks k blank) ≡ true →
@@ -182,7 +182,8 @@ IsRead c fd world =
 abbrev pub NoneHasEnded : World → Type 0
 NoneHasEnded world = OfEachFile (λ f. f.ended ≡ false) world.files
 
--- A worker's line is about files whose cores have not ended, and what is read has nothing in its way.
+-- A worker's line is about files whose cores have not ended, and what is read has nothing in its
+-- way.
 abbrev pub Suits : World → Form → Type 0
 Suits world (forms.Apply ino place) = (file_in world ino).ended ≡ false
 Suits world (forms.Finish ino place) = (file_in world ino).ended ≡ false
