@@ -92,7 +92,8 @@ kept-next law ino place None None = keep-give tt
 pub kept-apply : (law : Law) (ino place : ℕ) → Keeps law.base Any (apply ino place)
 kept-apply law ino place = keep-look (λ w. kept-next law ino place _ _)
 
-kept-back : (law : Law) (ino place : ℕ) (size : SizeEnd) → Keeps law.base Any (back ino place size)
+pub kept-back : (law : Law) (ino place : ℕ) (size : SizeEnd) →
+    Keeps law.base Any (back ino place size)
 kept-back law ino place size = keep-look (λ w. keep-event law tt)
 
 kept-unless : (law : Law) (kept : Bool) → law.base.MayBe kept → (ino place : ℕ) (size : SizeEnd) →

@@ -33,9 +33,17 @@ pub mod OnlyLines
 pub mod Stored
 pub mod Follow
 pub mod Hoare
+pub mod ShownNeeds
 pub mod ShownFiles
 pub mod ShownBlocks
+pub mod ShownRegions
 pub mod ShownJobs
+pub mod ShownGates
+pub mod ShownTrims
+pub mod ShownEnds
+pub mod ShownOpen
+pub mod ShownTurns
+pub mod ShownWork
 pub mod ShownParts
 pub mod ShownReads
 pub mod ShownLines

@@ -20,11 +20,14 @@ use Rattle.cfs_medium.specs.Shows.{Shows, is_for}
 use Rattle.cfs_medium.specs.World as media
 use Rattle.cfs_medium.specs.WorldCalls.{with_block}
 use Rattle.cfs_meaning.specs.Drive.{Drive, block_at}
-use Rattle.cfs_meaning.specs.World.{File, World, block_of, file_in, find_file, new_file, with_core}
-use Rattle.cfs_meaning.specs.Devices.{AreApart, IsEvenBlock, IsFileShown, IsPlaced, IsShown}
-use Rattle.cfs_meaning.specs.Devices.{OfEachFile, devices_of_file}
-use Rattle.cfs_meaning.proofs.ShownFiles.{files-both, files-map, found-in, replaced-but}
-use Rattle.cfs_meaning.proofs.ShownFiles.{still-apart}
+use Rattle.cfs_meaning.specs.World.{File, World, block_of, core_in, file_in, find_file, new_file}
+use Rattle.cfs_meaning.specs.World.{with_core}
+use Rattle.cfs_meaning.specs.Devices.{AreApart, IsEvenBlock, IsFileEquipped, IsFileShown, IsPlaced}
+use Rattle.cfs_meaning.specs.Devices.{IsShown, OfEachFile, devices_of_file}
+use Rattle.cfs_meaning.proofs.ShownFiles.{all-numbered, files-both, found-in, one-replaced}
+use Rattle.cfs_meaning.proofs.ShownFiles.{own-replaced, placed-within, replaced-but, still-apart}
+use Rattle.cfs_meaning.proofs.ShownFiles.{still-within}
+use Rattle.cfs_meaning.proofs.ShownNeeds.{NeedsLess, less-equipped}
 
 -- ---- one block changes
 
@@ -95,9 +98,9 @@ pub block-shown : (world : World) (ino k b : ℕ) (seen : Seen BlockStep) (core 
     block_of (file_in world ino) k ≡ Some b → IsEvenBlock seen →
     ((file_in world ino).ended ≡ false → Shows (file_in world ino).ino core
     (with_block k (Some seen) (devices_of_file world.drive (file_in world ino)))) →
-    IsShown world →
+    NeedsLess (core_in world ino) core → IsShown world →
     IsShown (record (with_core ino core world) { drive = with_seen b seen asked world.drive })
-block-shown world ino k b seen core asked f found here full shows shown = record {
+block-shown world ino k b seen core asked f found here full shows less shown = record {
   files = replaced-but
       (λ g. IsFileShown world.drive g × AreApart old g) (IsFileShown changed) new world.files
       (λ up. subst (Shows old.ino core)
@@ -107,12 +110,15 @@ block-shown world ino k b seen core asked f found here full shows shown = record
       (holds.0 up))
       (files-both (IsFileShown world.drive) (AreApart old) _ (λ g a c. (a, c)) world.files
       shown.files all);
-  apart = still-apart world ino new (record { ino = refl; rec = refl; held = refl; blocks = refl })
-      (files-map (IsPlaced world.drive) (λ g. g.ino ≢ 0) (λ g h. h.number) world.files shown.placed)
-      shown.apart;
+  apart = still-apart world ino new (still-within core old.passed old)
+      (all-numbered world shown) shown.apart;
   placed = replaced-but (IsPlaced world.drive) (IsPlaced changed) new world.files
-      (still new old_placed.number old_placed.blocks)
-      (λ g other h. still g h.number h.blocks) shown.placed;
+      (still new (placed-within world.drive new old (still-within core old.passed old) old_placed))
+      (λ g other h. still g h) shown.placed;
+  equipped = one-replaced IsFileEquipped IsFileEquipped world ino new refl
+      (all-numbered world shown) (λ has up. less-equipped old core less (has up)) shown.equipped
+      shown.equipped;
+  numbers = own-replaced new world.files shown.numbers;
   even = record {
     regions = shown.even.regions;
     blocks = all-set world.drive.blocks b seen full shown.even.blocks;
@@ -155,12 +161,16 @@ block-shown world ino k b seen core asked f found here full shows shown = record
     apart g other holds j n is same_b =
         other (sym (holds.blocks k j b here (is ∙ ap (λ m. Some m) same_b)).0)
 
-    still : (g : File) → g.ino ≢ 0 →
-        ((j n : ℕ) → block_of g j ≡ Some n → n < length world.drive.blocks) → IsPlaced changed g
-    still g number blocks = record {
-      number = number;
+    still : (g : File) → IsPlaced world.drive g → IsPlaced changed g
+    still g placed = record {
+      number = placed.number;
+      low = placed.low;
+      size = record { within = placed.size.within; word = placed.size.word };
+      slots = λ gate r is.
+          let has = placed.slots gate r is in record { within = has.within; word = has.word };
+      heads = placed.heads;
       blocks = λ j n is.
-          let within = blocks j n is in
+          let within = placed.blocks j n is in
           let same_len = length-set world.drive.blocks b seen in omega (arith, within, same_len);
     }
 

@@ -1,9 +1,10 @@
 -- Worlds that their devices show, where one file changes.
-use Rattle.std.proofs.Common.{◌≡◌, ◌≢◌, ℕ, ◌+◌, Bool, true, false, Option, Some, None, List, []}
-use Rattle.std.proofs.Common.{◌∷◌, length, map, refl, sym, ap, ◌∙◌, subst, cond, if◌then◌else◌}
-use Rattle.std.proofs.Common.{arith}
+use Rattle.std.proofs.Common.{◌≡◌, ◌≢◌, ◌⊎◌, ℕ, ◌+◌, ◌<◌, Bool, true, false, Option, Some, None}
+use Rattle.std.proofs.Common.{List, [], ◌∷◌, length, map, inl, inr, refl, sym, ap, ◌∙◌, subst, cond}
+use Rattle.std.proofs.Common.{if◌then◌else◌, arith}
 use Rattle.std.specs.Prelude.{find, unwrap_or, ◌==◌}
-use Rattle.std.proofs.lemmas.Bool.{eqb-false, ne_eqb}
+use Rattle.std.specs.List.{Contains}
+use Rattle.std.proofs.lemmas.Bool.{eq-eqb, eqb-false, eqb-true, ne_eqb}
 use Rattle.cfs_core.specs.declared.event.Event.{Event}
 use Rattle.cfs_core.specs.declared.inode_core.Core.{Core}
 use Rattle.cfs_core.specs.After.{after}
@@ -15,11 +16,16 @@ use Rattle.cfs_pmem.specs.declared.trace.Asked.{Asked}
 use Rattle.cfs_medium.specs.Shows.{Shows}
 use Rattle.cfs_medium.specs.World as media
 use Rattle.cfs_medium.proofs.LiveLeft.{shown-recovers}
-use Rattle.cfs_meaning.specs.World.{File, Held, World, core_in, file_in, find_file, new_file}
-use Rattle.cfs_meaning.specs.World.{replaces, with_core, with_file}
-use Rattle.cfs_meaning.specs.Devices.{AllApart, AreApart, IsFileShown, IsPlaced, IsRecovered}
-use Rattle.cfs_meaning.specs.Devices.{IsShown, OfEachFile, ShownFilesRecover, devices_of_file}
+use Rattle.cfs_meaning.specs.Drive.{Drive}
+use Rattle.cfs_meaning.specs.Steps.{size_word, slot}
+use Rattle.cfs_meaning.specs.World.{File, Held, World, block_of, core_in, devices_of, file_in}
+use Rattle.cfs_meaning.specs.World.{find_file, held_at, new_file, replaces, with_core, with_file}
+use Rattle.cfs_meaning.specs.Devices.{AllApart, AreApart, HasWord, HaveOwnNumbers}
+use Rattle.cfs_meaning.specs.Devices.{IsFileEquipped, IsFileShown, IsPlaced, IsRecovered, IsShown}
+use Rattle.cfs_meaning.specs.Devices.{OfEachFile}
+use Rattle.cfs_meaning.specs.Devices.{ShownFilesRecover, devices_of_file}
 use Rattle.cfs_meaning.specs.Laws.{OfEachCore}
+use Rattle.cfs_meaning.proofs.ShownNeeds.{is_modest, less-after, less-equipped}
 
 -- ---- each file
 
@@ -35,7 +41,7 @@ files-both P Q R give (f ∷ files) all also =
     (give f all.0 also.0, files-both P Q R give files all.1 also.1)
 
 -- what holds of each file holds of one that is found
-in-files : (P : File → Type 0) (test : File → Bool) (files : List File) (f : File) →
+pub in-files : (P : File → Type 0) (test : File → Bool) (files : List File) (f : File) →
     find test files ≡ Some f → OfEachFile P files → P f
 in-files P test [] f is all = absurd (cc)
 in-files P test (g ∷ files) f is all =
@@ -46,6 +52,19 @@ in-files P test (g ∷ files) f is all =
     pick true rest now = let same : g ≡ f = cc in subst P same all.0
     pick false rest now = rest now
 
+pub found-number : (ino : ℕ) (files : List File) (f : File) →
+    find (λ g. g.ino == ino) files ≡ Some f → f.ino ≡ ino
+found-number ino [] f is = absurd (cc)
+found-number ino (g ∷ files) f is =
+    pick (g.ino == ino) refl (λ later. found-number ino files f later) is
+  where
+    pick : (b : Bool) → (g.ino == ino) ≡ b →
+        (find (λ h. h.ino == ino) files ≡ Some f → f.ino ≡ ino) →
+        cond b (Some g) (find (λ h. h.ino == ino) files) ≡ Some f → f.ino ≡ ino
+    pick true here rest now =
+        let same : g ≡ f = cc in ap (λ (h : File). h.ino) (sym same) ∙ eqb-true g.ino ino here
+    pick false here rest now = rest now
+
 -- where none has the number, none is replaced
 pub none-replaced : (new : File) (files : List File) →
     OfEachFile (λ f. f.ino ≢ new.ino) files → map (replaces new) files ≡ files
@@ -54,7 +73,7 @@ none-replaced new (f ∷ files) none =
     ap (λ b. (if b then new else f) ∷ map (replaces new) files) (ne_eqb f.ino new.ino none.0)
     ∙ ap (λ rest. f ∷ rest) (none-replaced new files none.1)
 
-each-replaced : (Q : File → Type 0) (new : File) (files : List File) → Q new →
+pub each-replaced : (Q : File → Type 0) (new : File) (files : List File) → Q new →
     OfEachFile Q files → OfEachFile Q (map (replaces new) files)
 each-replaced Q new [] here all = tt
 each-replaced Q new (f ∷ files) here all =
@@ -108,55 +127,68 @@ one-replaced P Q world ino new own numbers give all also =
 
 -- ---- files that are apart
 
--- a file stands in the place of another as far as devices go
-pub record IsInPlace (new old : File) : Type 0 where
+-- a file stands in the place of another, and has no device that this one had not
+pub record IsWithin (new old : File) : Type 0 where
   pub ino : new.ino ≡ old.ino
   pub rec : new.rec ≡ old.rec
-  pub held : new.held ≡ old.held
-  pub blocks : new.blocks ≡ old.blocks
+  pub held : (gate : ℕ) →
+      (held_at new gate ≡ held_at old gate) ⊎ ((held_at new gate).slots ≡ [])
+  pub blocks : (k : ℕ) → (block_of new k ≡ block_of old k) ⊎ (block_of new k ≡ None)
 
-in-place : (P : File → Type 0) (new old : File) → ((core : Core) (passed : ℕ → ℕ) (ended : Bool)
-    (other : Core) (others : ℕ → ℕ) (end : Bool) (ino rec : ℕ)
-    (held : List Held) (blocks : List (ℕ × ℕ)) →
-    P (record {
-      ino = ino;
-      rec = rec;
-      core = core;
-      held = held;
-      blocks = blocks;
-      passed = passed;
-      ended = ended;
-    }) → P (record {
-      ino = ino;
-      rec = rec;
-      core = other;
-      held = held;
-      blocks = blocks;
-      passed = others;
-      ended = end;
-    })) → IsInPlace new old → P old → P new
-in-place P new old give same holds =
-    subst (λ i. P (record new { ino = i })) (sym same.ino)
-    (subst (λ r. P (record new { ino = old.ino; rec = r })) (sym same.rec)
-    (subst (λ h. P (record new { ino = old.ino; rec = old.rec; held = h })) (sym same.held)
-    (subst (λ b. P (record new { ino = old.ino; rec = old.rec; held = old.held; blocks = b }))
-    (sym same.blocks)
-    (give old.core old.passed old.ended new.core new.passed new.ended old.ino old.rec old.held
-    old.blocks holds))))
+-- it has the same ones
+pub still-within : (core : Core) (passed : ℕ → ℕ) (old : File) →
+    IsWithin (record old { core = core; passed = passed }) old
+still-within core passed old = record {
+  ino = refl;
+  rec = refl;
+  held = λ gate. inl refl;
+  blocks = λ k. inl refl;
+}
 
-apart-from : (g new old : File) → IsInPlace new old → AreApart old g → AreApart new g
-apart-from g new old same holds =
-    in-place (λ f. AreApart f g) new old
-    (λ core passed ended other others end ino rec held blocks h.
-    record { records = h.records; slots = h.slots; blocks = h.blocks }) same holds
+none-of : (h : Held) (d : ℕ) → h.slots ≡ [] → Contains (devices_of h) d → ⊥
+none-of h d none is =
+    let nothing : Contains [] d =
+    subst (λ (slots : List ℕ). Contains (map (slot h.queue) slots) d) none is in
+    let wrong : nothing.0 < 0 = nothing.1 in
+    omega (arith, wrong)
 
-apart-to : (g new old : File) → IsInPlace new old → AreApart g old → AreApart g new
-apart-to g new old same holds =
-    in-place (λ f. AreApart g f) new old
-    (λ core passed ended other others end ino rec held blocks h.
-    record { records = h.records; slots = h.slots; blocks = h.blocks }) same holds
+slots-within : (new old : File) → IsWithin new old → (gate d : ℕ) →
+    Contains (devices_of (held_at new gate)) d → Contains (devices_of (held_at old gate)) d
+slots-within new old within gate d is = elim (within.held gate) [
+  | inl same ↦ subst (λ (h : Held). Contains (devices_of h) d) same is
+  | inr none ↦ absurd (none-of (held_at new gate) d none is)
+]
 
-pub still-apart : (world : World) (ino : ℕ) (new : File) → IsInPlace new (file_in world ino) →
+blocks-within : (new old : File) → IsWithin new old → (k b : ℕ) → block_of new k ≡ Some b →
+    block_of old k ≡ Some b
+blocks-within new old within k b is = elim (within.blocks k) [
+  | inl same ↦ sym same ∙ is
+  | inr none ↦ let wrong : None ≡ Some b = sym none ∙ is in absurd (cc)
+]
+
+pub apart-from : (g new old : File) → IsWithin new old → AreApart old g → AreApart new g
+apart-from g new old within holds = record {
+  records = λ same. within.ino ∙ holds.records (sym within.rec ∙ same);
+  slots = λ gate other d one more.
+      let both = holds.slots gate other d (slots-within new old within gate d one) more in
+      (within.ino ∙ both.0, both.1);
+  blocks = λ j k b one more.
+      let both = holds.blocks j k b (blocks-within new old within j b one) more in
+      (within.ino ∙ both.0, both.1);
+}
+
+pub apart-to : (g new old : File) → IsWithin new old → AreApart g old → AreApart g new
+apart-to g new old within holds = record {
+  records = λ same. holds.records (same ∙ within.rec) ∙ sym within.ino;
+  slots = λ gate other d one more.
+      let both = holds.slots gate other d one (slots-within new old within other d more) in
+      (both.0 ∙ sym within.ino, both.1);
+  blocks = λ j k b one more.
+      let both = holds.blocks j k b one (blocks-within new old within k b more) in
+      (both.0 ∙ sym within.ino, both.1);
+}
+
+pub still-apart : (world : World) (ino : ℕ) (new : File) → IsWithin new (file_in world ino) →
     OfEachFile Numbered world.files → AllApart world.files →
     AllApart (map (replaces new) world.files)
 still-apart world ino new same numbers all =
@@ -176,45 +208,121 @@ still-apart world ino new same numbers all =
         one-replaced (AreApart f) (AreApart f) world ino new same.ino numbers
         (apart-to f new (file_in world ino) same) each each
 
-pub still-placed : (world : World) (ino : ℕ) (new : File) → IsInPlace new (file_in world ino) →
+pub placed-within : (drive : Drive) (new old : File) → IsWithin new old → IsPlaced drive old →
+    IsPlaced drive new
+placed-within drive new old within placed = record {
+  number = λ none. placed.number (sym within.ino ∙ none);
+  low = subst (λ n. n < 256) (sym within.rec) placed.low;
+  size = subst (λ n. HasWord drive (size_word n)) (sym within.rec) placed.size;
+  slots = λ gate d is. placed.slots gate d (slots-within new old within gate d is);
+  heads = λ gate s tails is. elim (within.held gate) [
+    | inl same ↦ placed.heads gate s tails (sym (ap (λ (h : Held). h.slots) same) ∙ is)
+    | inr none ↦ let wrong : [] ≡ s ∷ tails = sym none ∙ is in absurd (cc)
+  ];
+  blocks = λ k b is. placed.blocks k b (blocks-within new old within k b is);
+}
+
+pub still-placed : (world : World) (ino : ℕ) (new : File) → IsWithin new (file_in world ino) →
     OfEachFile (IsPlaced world.drive) world.files →
     OfEachFile (IsPlaced world.drive) (map (replaces new) world.files)
 still-placed world ino new same all =
     one-replaced (IsPlaced world.drive) (IsPlaced world.drive) world ino new same.ino
     (files-map (IsPlaced world.drive) Numbered (λ f h. h.number) world.files all)
-    (in-place (IsPlaced world.drive) new (file_in world ino)
-    (λ core passed ended other others end i rec held blocks h.
-    record { number = h.number; blocks = h.blocks }) same)
+    (placed-within world.drive new (file_in world ino) same)
     all all
+
+-- ---- numbers
+
+replaced-number : (new f : File) → (replaces new f).ino ≡ f.ino
+replaced-number new f = by-test (f.ino == new.ino) refl
+  where
+    by-test : (b : Bool) → (f.ino == new.ino) ≡ b → (if b then new else f).ino ≡ f.ino
+    by-test true is = sym (eqb-true f.ino new.ino is)
+    by-test false is = refl
+
+pub own-replaced : (new : File) (files : List File) → HaveOwnNumbers files →
+    HaveOwnNumbers (map (replaces new) files)
+own-replaced new [] own = tt
+own-replaced new (f ∷ files) own = (
+  subst (λ n. OfEachFile (λ g. g.ino ≢ n) (map (replaces new) files))
+      (sym (replaced-number new f)) (others files own.0),
+  own-replaced new files own.1,
+)
+  where
+    others : (rest : List File) → OfEachFile (λ g. g.ino ≢ f.ino) rest →
+        OfEachFile (λ g. g.ino ≢ f.ino) (map (replaces new) rest)
+    others [] all = tt
+    others (g ∷ rest) all =
+        (λ same. all.0 (sym (replaced-number new g) ∙ same), others rest all.1)
+
+-- a file in its own place
+pub itself-replaced : (ino : ℕ) (files : List File) (f : File) → HaveOwnNumbers files →
+    find (λ g. g.ino == ino) files ≡ Some f → map (replaces f) files ≡ files
+itself-replaced ino [] f own is = refl
+itself-replaced ino (g ∷ files) f own is =
+    pick (g.ino == ino) refl (λ later. itself-replaced ino files f own.1 later) is
+  where
+    pick : (b : Bool) → (g.ino == ino) ≡ b →
+        (find (λ h. h.ino == ino) files ≡ Some f → map (replaces f) files ≡ files) →
+        cond b (Some g) (find (λ h. h.ino == ino) files) ≡ Some f →
+        map (replaces f) (g ∷ files) ≡ g ∷ files
+    pick true here rest now =
+        let same : g ≡ f = cc in
+        ap (λ b. (if b then f else g) ∷ map (replaces f) files)
+        (eq-eqb g.ino f.ino (ap (λ (h : File). h.ino) same))
+        ∙ ap (λ list. f ∷ list)
+        (none-replaced f files (subst (λ (h : File). OfEachFile (λ e. e.ino ≢ h.ino) files) same
+        own.0))
+        ∙ ap (λ (h : File). h ∷ files) (sym same)
+    pick false here rest now =
+        let number : f.ino ≡ ino = found-number ino files f now in
+        ap (λ b. (if b then f else g) ∷ map (replaces f) files)
+        (ne_eqb g.ino f.ino (λ same. eqb-false g.ino ino here (same ∙ number)))
+        ∙ ap (λ list. g ∷ list) (rest now)
 
 -- ---- the world
 
+pub all-numbered : (world : World) → IsShown world → OfEachFile (λ f. f.ino ≢ 0) world.files
+all-numbered world shown =
+    files-map (IsPlaced world.drive) Numbered (λ f h. h.number) world.files shown.placed
+
 -- one file is replaced, whose devices show its core, and no device changes
-pub file-shown : (world : World) (ino : ℕ) (new : File) → IsInPlace new (file_in world ino) →
+pub file-shown : (world : World) (ino : ℕ) (new : File) → IsWithin new (file_in world ino) →
     (IsFileShown world.drive (file_in world ino) → IsFileShown world.drive new) →
+    (IsFileEquipped (file_in world ino) → IsFileEquipped new) →
     IsShown world → IsShown (with_file new world)
-file-shown world ino new same give shown = record {
+file-shown world ino new same give equips shown = record {
   files = one-replaced (IsFileShown world.drive) (IsFileShown world.drive) world ino new same.ino
       numbers give shown.files shown.files;
   apart = still-apart world ino new same numbers shown.apart;
   placed = still-placed world ino new same shown.placed;
+  equipped = one-replaced IsFileEquipped IsFileEquipped world ino new same.ino numbers equips
+      shown.equipped shown.equipped;
+  numbers = own-replaced new world.files shown.numbers;
   even = shown.even;
   tree = shown.tree;
 }
   where
     numbers : OfEachFile Numbered world.files
-    numbers = files-map (IsPlaced world.drive) Numbered (λ f h. h.number) world.files shown.placed
+    numbers = all-numbered world shown
 
 -- an event comes that no device shows
 pub event-shown : (world : World) (ino : ℕ) (e : Event) → may (core_in world ino) e ≡ true →
+    is_modest e ≡ true →
     ((i : ℕ) (core : Core) (devices : media.World) → Shows i core devices → may core e ≡ true →
     Shows i (after core e) devices) →
     IsShown world → IsShown (with_core ino (after (core_in world ino) e) world)
-event-shown world ino e may_be give shown =
+event-shown world ino e may_be modest give shown =
     file-shown world ino (record (file_in world ino) { core = after (core_in world ino) e })
-    (record { ino = refl; rec = refl; held = refl; blocks = refl })
+    (still-within (after (core_in world ino) e) (file_in world ino).passed (file_in world ino))
     (λ old up. give (file_in world ino).ino (core_in world ino)
-    (devices_of_file world.drive (file_in world ino)) (old up) may_be) shown
+    (devices_of_file world.drive (file_in world ino)) (old up) may_be)
+    (λ old up. less-equipped (file_in world ino) (after (core_in world ino) e)
+    (less-after (core_in world ino) e modest may_be) (old up)) shown
+
+asked-word : (drive : Drive) (asked : List Asked) (r : ℕ) → HasWord drive r →
+    HasWord (record drive { asked = asked }) r
+asked-word drive asked r has = record { within = has.within; word = has.word }
 
 -- the power was asked something
 pub asked-shown : (world : World) (asked : List Asked) →
@@ -225,7 +333,16 @@ asked-shown world asked shown = record {
   apart = shown.apart;
   placed = files-map
       (IsPlaced world.drive) _
-      (λ f h. record { number = h.number; blocks = h.blocks }) world.files shown.placed;
+      (λ f h. record {
+        number = h.number;
+        low = h.low;
+        size = asked-word world.drive asked (size_word f.rec) h.size;
+        slots = λ gate r is. asked-word world.drive asked r (h.slots gate r is);
+        heads = h.heads;
+        blocks = h.blocks;
+      }) world.files shown.placed;
+  equipped = shown.equipped;
+  numbers = shown.numbers;
   even = record { regions = shown.even.regions; blocks = shown.even.blocks };
   tree = shown.tree;
 }

@@ -64,6 +64,7 @@ use Rattle.cfs_meaning.proofs.Quiet.{file-has}
 use Rattle.cfs_meaning.proofs.Reached.{empty-reached}
 use Rattle.cfs_meaning.proofs.ShownBlocks.{block-shown, mapped-has, with_seen}
 use Rattle.cfs_meaning.proofs.ShownFiles.{asked-shown, found-in}
+use Rattle.cfs_meaning.proofs.ShownNeeds.{less-after}
 use Rattle.cfs_meaning.proofs.Total.{with_attempt}
 
 -- what is known of a world where a job makes a step
@@ -300,7 +301,8 @@ flushed-shown world ino place k ok asked work may_be =
     })) (sym (ap (λ o. unwrap_or o 0) job.here))
     (block-shown world ino k job.block _ _ asked job.file job.found job.here
     (full-after ok (block_at world.drive job.block) job.full)
-    (λ up. flushed-core world ino place k ok work may_be job) work.shown)
+    (λ up. flushed-core world ino place k ok work may_be job)
+    (less-after (core_in world ino) (events.Flush place k ok) refl may_be) work.shown)
 
 -- a world whose drive alone is another, by one operation on a block
 abbrev IsBehindOp : World → ℕ → BlockOp → Bool → World → Type 0
@@ -622,6 +624,8 @@ written-shown world ino place k ok asked left work may_be left_is =
     (full-write ok (block_at world.drive job.block) (from_in core place k) (piece_of core place k)
     job.full sized.within)
     (λ up. written-core world ino place k ok work job has_it
+    (subst (λ l. may core (events.BlockWrite place k l) ≡ true) stands may_be))
+    (less-after core (events.BlockWrite place k _) refl
     (subst (λ l. may core (events.BlockWrite place k l) ≡ true) stands may_be)) work.shown))
 
 -- the world with all but what the power was asked

@@ -6,7 +6,6 @@ use Rattle.cfs_file.specs.declared.entry.Entry.{Entry}
 use Rattle.cfs_file.specs.declared.request.Request.{Request}
 use Rattle.cfs_file.specs.declared.request.Request.TheVariants as requests
 use Rattle.cfs_core.specs.declared.event.Event.TheVariants as events
-use Rattle.cfs_medium.proofs.QuietEvents.{quiet-events-show}
 use Rattle.cfs_medium.proofs.ReadEvents.{reads-may-come}
 use Rattle.cfs_pmem.specs.declared.trace.Asked.TheVariants.{Stopped}
 use Rattle.cfs_print.specs.declared.printed.Printed.{Printed}
@@ -15,24 +14,26 @@ use Rattle.cfs_script.specs.declared.form.Form.TheVariants as forms
 use Rattle.cfs_words.specs.declared.device.Device.{Device}
 use Rattle.cfs_words.specs.declared.seek.Seek.{Seek}
 use Rattle.cfs_meaning.specs.World.{Descriptor, Down, Failed, Phase, Up, World, core_in}
-use Rattle.cfs_meaning.specs.World.{descriptor_in, file_in, with_file}
-use Rattle.cfs_meaning.specs.Inode.{Absent, Behind, Ready, Verdict, admit_read, dispatch, verdict}
-use Rattle.cfs_meaning.specs.Inode.{with_passed}
+use Rattle.cfs_meaning.specs.World.{descriptor_in}
+use Rattle.cfs_meaning.specs.Inode.{Absent, Behind, Ready, Verdict, admit_read, verdict}
 use Rattle.cfs_meaning.specs.Files.{has_no_power, list_queue, lseek, most_read, opened}
 use Rattle.cfs_meaning.specs.Files.{opened_to_read, post}
 use Rattle.cfs_meaning.specs.Workers.{apply_line, dispatch_by, dispatch_line, there}
 use Rattle.cfs_meaning.specs.Devices.{IsShown, Suits, LinesKeepShown, keeps_shown}
 use Rattle.cfs_meaning.specs.Laws.{AreReached, is_mount}
-use Rattle.cfs_meaning.specs.Play.{does, plan, steps_so, stopped, while_up}
-use Rattle.cfs_meaning.specs.Ways.{Halt, Now, now}
+use Rattle.cfs_meaning.specs.Play.{does, plan, steps_so, stopped, up, while_up}
+use Rattle.cfs_meaning.specs.Ways.{Halt, Now, Way, now}
 use Rattle.cfs_meaning.proofs.Hoare.{Leaves, leave-changes, leave-end, leave-event, leave-look}
 use Rattle.cfs_meaning.proofs.Hoare.{leave-refuse, leave-then, leave-weaker}
 use Rattle.cfs_meaning.proofs.Lines.{mount-up, only-mount}
 use Rattle.cfs_meaning.proofs.ShownJobs.{AtWork, apply-shown}
-use Rattle.cfs_meaning.proofs.ShownFiles.{asked-shown, event-shown, file-shown}
+use Rattle.cfs_meaning.proofs.ShownFiles.{asked-shown, event-shown}
 use Rattle.cfs_meaning.proofs.ShownParts.{Keeps, any-give, any-known, any-look, any-refuse}
-use Rattle.cfs_meaning.proofs.ShownParts.{keep-told, keep-up, moved-shown, same-shown}
+use Rattle.cfs_meaning.proofs.ShownParts.{keep-dispatch, keep-told, keep-up, moved-shown}
+use Rattle.cfs_meaning.proofs.ShownParts.{same-shown}
 use Rattle.cfs_meaning.proofs.ShownReads.{read-line, serve-line, sync-line}
+use Rattle.cfs_meaning.proofs.ShownTurns.{finish-line, settle-line, skip-line, trim-line}
+use Rattle.cfs_meaning.proofs.ShownWork.{drain-shown, turn-shown}
 use Rattle.cfs_meaning.proofs.Total.{IfEnds}
 
 keep-seek : (d : Descriptor) (c : ℕ) (seek : Seek) → Keeps (lseek d c seek)
@@ -60,7 +61,7 @@ keep-read : (d : Descriptor) (c line : ℕ) (request : Request) →
 keep-read d c line request =
     any-look (λ x.
     leave-then (leave-event (λ w shown may_be.
-    event-shown w d.grant.ino (events.AdmitRead (entry x)) may_be
+    event-shown w d.grant.ino (events.AdmitRead (entry x)) may_be refl
     (λ i core devices shows allowed. reads-may-come i core (entry x) devices shows allowed) shown))
     (λ u.
     leave-then (leave-changes (λ w shown. same-shown w _ refl refl refl shown)) (λ v. any-give)))
@@ -77,20 +78,6 @@ keep-read d c line request =
 keep-post : (d : Descriptor) (c line : ℕ) (request : Request) → Keeps (post d c line request)
 keep-post d c line request =
     leave-then (keep-read d c line request) (λ place. any-give)
-
-passed-shown : (ino place n : ℕ) (world : World) → IsShown world →
-    IsShown (with_file (with_passed place n (file_in world ino)) world)
-passed-shown ino place n world shown =
-    file-shown world ino (with_passed place n (file_in world ino))
-    (record { ino = refl; rec = refl; held = refl; blocks = refl }) (λ old. old) shown
-
-keep-dispatch : (ino place : ℕ) → Keeps (dispatch ino place)
-keep-dispatch ino place =
-    leave-then (leave-event (λ w shown may_be.
-    event-shown w ino (events.Dispatch place) may_be
-    (λ i core devices shows allowed.
-    quiet-events-show i core (events.Dispatch place) devices shows refl allowed) shown)) (λ u.
-    leave-changes (λ w shown. passed-shown ino place 0 w shown))
 
 keep-dispatch-by : (ino place : ℕ) (v : Verdict) → Keeps (dispatch_by ino place v)
 keep-dispatch-by ino place Absent = leave-end (λ w holds. holds)
@@ -135,35 +122,42 @@ keep-plan device writing k =
     leave-then (any-known _ _) (λ number.
     leave-then (leave-changes (λ w shown. asked-shown w _ shown)) (λ u. any-give)))
 
--- ---- a job's next step
+-- ---- lines that ask more of the world
 
-apply-shown-line : (line ino place : ℕ) →
-    Leaves (AtWork ino) (λ answer. IsShown) IsShown (does line (forms.Apply ino place))
-apply-shown-line line ino place =
+leave-up : {P : World → Type 0} {way : Way Printed} → ((w : World) → P w → IsShown w) →
+    Leaves P (λ answer. IsShown) IsShown way → Leaves P (λ answer. IsShown) IsShown (up way)
+leave-up {P = P} {way = way} shows one =
     leave-then {Q = λ answer. IsShown}
     (leave-look (λ x.
-    leave-weaker {P = AtWork ino} (λ w holds. holds.1) (λ a w q. q) (λ w e. e)
+    leave-weaker {P = P} (λ w holds. holds.1) (λ a w q. q) (λ w e. e)
     (by-phase x.phase))) (λ answer. any-give)
   where
-    applied : Leaves (AtWork ino) (λ answer. IsShown) IsShown (apply_line ino place)
-    applied =
-        leave-look (λ x.
-        leave-then {Q = λ u. AtWork ino}
-        (leave-weaker {P = AtWork ino} (λ w holds. holds.1) (λ u w q. q.1) (λ w e. e)
-        (leave-refuse _ _ (λ w work. work.shown))) (λ u.
-        leave-then {Q = λ v. IsShown} (apply-shown ino place) (λ v. any-look (λ y. any-give))))
+    by-phase : (phase : Phase) → Leaves P (λ answer. IsShown) IsShown (while_up phase way)
+    by-phase Up = one
+    by-phase Down = leave-end shows
+    by-phase Failed = leave-end shows
 
-    by-phase : (phase : Phase) →
-        Leaves (AtWork ino) (λ answer. IsShown) IsShown (while_up phase (apply_line ino place))
-    by-phase Up = applied
-    by-phase Down = leave-end (λ w work. work.shown)
-    by-phase Failed = leave-end (λ w work. work.shown)
+-- a job's next step
+apply-line : (ino place : ℕ) →
+    Leaves (AtWork ino) (λ answer. IsShown) IsShown (apply_line ino place)
+apply-line ino place =
+    leave-look (λ x.
+    leave-then {Q = λ u. AtWork ino}
+    (leave-weaker {P = AtWork ino} (λ w holds. holds.1) (λ u w q. q.1) (λ w e. e)
+    (leave-refuse _ _ (λ w work. work.shown))) (λ u.
+    leave-then {Q = λ v. IsShown} (apply-shown ino place) (λ v. any-look (λ y. any-give))))
 
 -- ---- lines
 
--- the lines that ask more of the world: one step of a job, and the lines that read
+-- the lines of workers, but for dispatch, and the lines that read
 abbrev asks_more : Form → Bool
 asks_more (forms.Apply ino place) = true
+asks_more (forms.Finish ino place) = true
+asks_more (forms.Skip ino place) = true
+asks_more (forms.Trim ino) = true
+asks_more (forms.Settle ino) = true
+asks_more forms.Turn = true
+asks_more forms.Drain = true
 asks_more (forms.Read c fd n) = true
 asks_more (forms.Pread c fd offset n) = true
 asks_more (forms.Fsync c fd) = true
@@ -185,6 +179,12 @@ keep-line line (forms.Stop n) keeps other more =
     keep-told (leave-then (leave-changes (λ w shown. stopped-shown n w shown)) (λ u. any-give))
 keep-line line forms.Mount keeps other more = absurd (cc)
 keep-line line (forms.Apply ino place) keeps other more = absurd (cc)
+keep-line line (forms.Finish ino place) keeps other more = absurd (cc)
+keep-line line (forms.Skip ino place) keeps other more = absurd (cc)
+keep-line line (forms.Trim ino) keeps other more = absurd (cc)
+keep-line line (forms.Settle ino) keeps other more = absurd (cc)
+keep-line line forms.Turn keeps other more = absurd (cc)
+keep-line line forms.Drain keeps other more = absurd (cc)
 keep-line line (forms.Read c fd n) keeps other more = absurd (cc)
 keep-line line (forms.Pread c fd offset n) keeps other more = absurd (cc)
 keep-line line (forms.Fsync c fd) keeps other more = absurd (cc)
@@ -202,8 +202,26 @@ more-line : (line : ℕ) (form : Form) (old : World) (end : Result (Option Print
     (new : World) → asks_more form ≡ true → Suits old form → AreReached old → IsShown old →
     does line form old end new → IsShown new
 more-line line (forms.Apply ino place) old end new is of reached shown way =
-    shown-ends end new ((apply-shown-line line ino place).by old end new
+    shown-ends end new ((leave-up (λ w work. work.shown) (apply-line ino place)).by old end new
     (record { shown = shown; reached = reached; goes_on = of }) way)
+more-line line (forms.Finish ino place) old end new is of reached shown way =
+    shown-ends end new ((leave-up (λ w work. work.shown) (finish-line ino place)).by old end new
+    (record { shown = shown; reached = reached; goes_on = of }) way)
+more-line line (forms.Skip ino place) old end new is of reached shown way =
+    shown-ends end new ((leave-up (λ w work. work.shown) (skip-line ino place)).by old end new
+    (record { shown = shown; reached = reached; goes_on = of }) way)
+more-line line (forms.Settle ino) old end new is of reached shown way =
+    shown-ends end new ((leave-up (λ w work. work.shown) (settle-line ino)).by old end new
+    (record { shown = shown; reached = reached; goes_on = of }) way)
+more-line line (forms.Trim ino) old end new is of reached shown way =
+    shown-ends end new ((leave-up (λ w all. all.shown) (trim-line ino)).by old end new
+    (record { shown = shown; reached = reached; open_ = of }) way)
+more-line line forms.Turn old end new is of reached shown way =
+    shown-ends end new ((leave-up (λ w all. all.shown) turn-shown).by old end new
+    (record { shown = shown; reached = reached; open_ = of }) way)
+more-line line forms.Drain old end new is of reached shown way =
+    shown-ends end new ((leave-up (λ w all. all.shown) drain-shown).by old end new
+    (record { shown = shown; reached = reached; open_ = of }) way)
 more-line line (forms.Read c fd n) old end new is of reached shown way =
     shown-ends end new ((read-line c fd line (λ d. requests.Read d.position (most_read n)) true).by
     old end new (shown, of) way)

@@ -2,13 +2,20 @@
 use Rattle.std.proofs.Common.{◌≡◌, ℕ, Bool, true, false, Option, Some, None, refl, sym, subst}
 use Rattle.std.proofs.Common.{if◌then◌else◌}
 use Rattle.cfs_print.specs.declared.printed.Printed.{Printed}
-use Rattle.cfs_meaning.specs.World.{Descriptor, Down, Failed, Phase, Up, World, with_descriptor}
+use Rattle.cfs_core.specs.declared.event.Event.TheVariants as events
+use Rattle.cfs_medium.proofs.QuietEvents.{quiet-events-show}
+use Rattle.cfs_meaning.specs.World.{Descriptor, Down, Failed, Phase, Up, World, core_in, file_in}
+use Rattle.cfs_meaning.specs.World.{with_descriptor, with_file}
+use Rattle.cfs_meaning.specs.Inode.{dispatch, with_passed}
 use Rattle.cfs_meaning.specs.Files.{at_position, has_no_power, moved_by}
 use Rattle.cfs_meaning.specs.Devices.{IsShown}
 use Rattle.cfs_meaning.specs.Play.{told, up, while_up}
 use Rattle.cfs_meaning.specs.Ways.{Now, Way, give, known, refuse_if, ◌>>=◌}
-use Rattle.cfs_meaning.proofs.Hoare.{Leaves, leave-end, leave-give, leave-known, leave-look}
-use Rattle.cfs_meaning.proofs.Hoare.{leave-refuse, leave-then, leave-weaker}
+use Rattle.cfs_meaning.proofs.Hoare.{Leaves, leave-changes, leave-end, leave-event, leave-give}
+use Rattle.cfs_meaning.proofs.Hoare.{leave-known, leave-look, leave-refuse, leave-then}
+use Rattle.cfs_meaning.proofs.Hoare.{leave-weaker}
+use Rattle.cfs_meaning.proofs.ShownFiles.{event-shown, file-shown, still-within}
+use Rattle.cfs_meaning.proofs.ShownNeeds.{passed-equipped}
 
 -- the part keeps a world shown, however it ends
 abbrev pub Keeps : {A : Type 0} → Way A → Type 0
@@ -59,9 +66,31 @@ same-shown old new drive files names shown =
       files = shown.files;
       apart = shown.apart;
       placed = shown.placed;
+      equipped = shown.equipped;
+      numbers = shown.numbers;
       even = shown.even;
       tree = shown.tree;
     })))
+
+-- ---- a job is given out
+
+pub passed-shown : (ino place n : ℕ) (world : World) → IsShown world →
+    IsShown (with_file (with_passed place n (file_in world ino)) world)
+passed-shown ino place n world shown =
+    file-shown world ino (with_passed place n (file_in world ino))
+    (still-within (core_in world ino) (with_passed place n (file_in world ino)).passed
+    (file_in world ino)) (λ old. old)
+    (passed-equipped (file_in world ino) (with_passed place n (file_in world ino)).passed) shown
+
+pub keep-dispatch : (ino place : ℕ) → Keeps (dispatch ino place)
+keep-dispatch ino place =
+    leave-then (leave-event (λ w shown may_be.
+    event-shown w ino (events.Dispatch place) may_be refl
+    (λ i core devices shows allowed.
+    quiet-events-show i core (events.Dispatch place) devices shows refl allowed) shown)) (λ u.
+    leave-changes (λ w shown. passed-shown ino place 0 w shown))
+
+-- ---- positions
 
 pub moved-shown : (option : Option Descriptor) (c to : ℕ) (world : World) → IsShown world →
     IsShown (moved_by option c to world)

@@ -137,6 +137,7 @@ admit-reading d c line request =
     leave-then {Q = λ u. Reading d.grant.ino}
     (leave-event (λ w holds may_be. (
       event-shown w d.grant.ino (events.AdmitRead (entry_of d c line request x)) may_be
+          refl
           (λ i core devices shows allowed.
           reads-may-come i core (entry_of d c line request x) devices shows allowed) holds.1.0,
       core-behind w d.grant.ino
@@ -223,7 +224,7 @@ served-shown ino place =
     (λ w holds. holds.0)) (λ u.
     leave-then {Q = λ v. IsShown}
     (leave-event (λ w shown may_be.
-    event-shown w ino (events.Serve place (Some (its_bytes x))) may_be
+    event-shown w ino (events.Serve place (Some (its_bytes x))) may_be refl
     (λ i core devices shows allowed.
     quiet-events-show i core (events.Serve place (Some (its_bytes x))) devices shows refl allowed)
     shown)) (λ v. leave-give (λ w shown. shown))))
@@ -235,7 +236,7 @@ served-shown ino place =
 dropped-shown : (ino place : ℕ) → Leaves IsShown (λ u. IsShown) IsShown (drop_read ino place)
 dropped-shown ino place =
     leave-event (λ w shown may_be.
-    event-shown w ino (events.Serve place None) may_be
+    event-shown w ino (events.Serve place None) may_be refl
     (λ i core devices shows allowed.
     quiet-events-show i core (events.Serve place None) devices shows refl allowed) shown)
 

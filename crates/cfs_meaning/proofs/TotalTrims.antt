@@ -20,6 +20,7 @@ use Rattle.cfs_meaning.specs.Inode.{give_block, trim, trim_at, without_block}
 use Rattle.cfs_meaning.specs.Workers.{trim_line}
 use Rattle.cfs_meaning.specs.Ways.{Repeats, unless_fault}
 use Rattle.cfs_meaning.proofs.Quiet.{core-up, replaced-up}
+use Rattle.cfs_meaning.proofs.ShownFiles.{found-number}
 use Rattle.cfs_meaning.proofs.Total.{Falls, Total, total-changes, total-end, total-event}
 use Rattle.cfs_meaning.proofs.Total.{total-give, total-look, total-repeats, total-then, total-tries}
 use Rattle.cfs_meaning.proofs.Total.{total-weaker}
@@ -29,7 +30,7 @@ use Rattle.cfs_meaning.proofs.Uncrashed.{after-up}
 
 -- ---- the core behind an event
 
-find-replaced : (new : File) (ino : ℕ) (files : List File) (f : File) → new.ino ≡ ino →
+pub find-replaced : (new : File) (ino : ℕ) (files : List File) (f : File) → new.ino ≡ ino →
     find (λ g. g.ino == ino) files ≡ Some f →
     find (λ g. g.ino == ino) (map (replaces new) files) ≡ Some new
 find-replaced new ino [] f own is = absurd (cc)
@@ -53,19 +54,6 @@ find-replaced new ino (g ∷ files) f own is =
         (ne_eqb g.ino new.ino (λ same. apart (same ∙ own)))
         ∙ ap (λ b. cond b (Some g) (find (λ h. h.ino == ino) (map (replaces new) files))) here
         ∙ rest now
-
-found-number : (ino : ℕ) (files : List File) (f : File) →
-    find (λ g. g.ino == ino) files ≡ Some f → f.ino ≡ ino
-found-number ino [] f is = absurd (cc)
-found-number ino (g ∷ files) f is =
-    pick (g.ino == ino) refl (λ later. found-number ino files f later) is
-  where
-    pick : (b : Bool) → (g.ino == ino) ≡ b →
-        (find (λ h. h.ino == ino) files ≡ Some f → f.ino ≡ ino) →
-        cond b (Some g) (find (λ h. h.ino == ino) files) ≡ Some f → f.ino ≡ ino
-    pick true here rest now =
-        let same : g ≡ f = cc in ap (λ (h : File). h.ino) (sym same) ∙ eqb-true g.ino ino here
-    pick false here rest now = rest now
 
 -- where the file is there, its core is the one that it was given
 pub core-given : (world : World) (ino : ℕ) (core : Core) (f : File) →

@@ -1,11 +1,14 @@
 -- When the devices of a store show a world: each image of them fits it.
-use Rattle.std.specs.Prelude.{◌≡◌, ◌≢◌, ℕ, ◌+◌, ◌<◌, Bool, true, false, Some, List, [], ◌∷◌, length}
-use Rattle.std.specs.Prelude.{map, take}
+use Rattle.std.specs.Prelude.{◌≡◌, ◌≢◌, ℕ, ◌+◌, ◌<◌, Bool, true, false, not, ◌||◌, Some, List, []}
+use Rattle.std.specs.Prelude.{◌∷◌, length, map, take, get_or, is_some}
 use Rattle.std.specs.List.{All, Contains, list_any}
 use Rattle.std.specs.Option.{option_map}
 use Rattle.cfs_file.specs.declared.sizes.TheConstants.{BLOCK_LEN}
 use Rattle.cfs_core.specs.declared.inode_core.Core.{Core}
-use Rattle.cfs_core.specs.Words.{is_live}
+use Rattle.cfs_core.specs.declared.doubt.Doubt.{Doubt}
+use Rattle.cfs_core.specs.declared.flag.Flag.TheVariants.{Off}
+use Rattle.cfs_core.specs.declared.track.Track.{Track}
+use Rattle.cfs_core.specs.Words.{blank, is_live, is_off}
 use Rattle.cfs_pmem.specs.Images.{IsImage, Seen, WordStep, words_kept, words_of}
 use Rattle.cfs_pmem.specs.Objects.{IsEachImage}
 use Rattle.cfs_block.specs.BlockImages.{BlockStep, content_kept, content_of}
@@ -56,10 +59,44 @@ pub record AreApart (f g : File) : Type 0 where
 abbrev pub AllApart : List File → Type 0
 AllApart files = OfEachFile (λ f. OfEachFile (AreApart f) files) files
 
--- the file has a number, and its blocks are some of the drive's
+-- a region of the drive, with a word at least
+pub record HasWord (drive : Drive) (r : ℕ) : Type 0 where
+  pub within : r < length drive.regions
+  pub word : 0 < length (words_of (region_at drive r))
+
+-- The file has a number and a size word. Its slots are some of the drive's regions, and the head of
+-- a request is none of its tails. Its blocks are some of the drive's.
 pub record IsPlaced (drive : Drive) (f : File) : Type 0 where
   pub number : f.ino ≢ 0
+  pub low : f.rec < 256
+  pub size : HasWord drive (size_word f.rec)
+  pub slots : (gate r : ℕ) → Contains (devices_of (held_at f gate)) r → HasWord drive r
+  pub heads : (gate s : ℕ) (tails : List ℕ) → (held_at f gate).slots ≡ s ∷ tails →
+      Contains tails s → ⊥
   pub blocks : (k b : ℕ) → block_of f k ≡ Some b → b < length drive.blocks
+
+-- a request that is live, or whose gate may be open
+abbrev pub needs_slots : Track → Bool
+needs_slots t = is_live t.state || not (is_off t.gate)
+
+-- No crash came to the core. Each request that needs slots has them, and so has the one in doubt,
+-- and a file block that may be tagged has a block.
+pub record IsEquipped (f : File) : Type 0 where
+  pub up : f.core.crashed ≡ false
+  pub slots : (k : ℕ) → needs_slots (get_or f.core.tracks k blank) ≡ true →
+      0 < length (held_at f (k + 1)).slots
+  pub doubt : (doubt : Doubt) → f.core.doubt ≡ Some doubt →
+      0 < length (held_at f doubt.entry.place).slots
+  pub blocks : (k : ℕ) → is_off (get_or f.core.tags k Off) ≡ false → is_some (block_of f k) ≡ true
+
+-- unless its core has ended
+abbrev pub IsFileEquipped : File → Type 0
+IsFileEquipped f = f.ended ≡ false → IsEquipped f
+
+-- each file has a number of its own
+abbrev pub HaveOwnNumbers : List File → Type 0
+HaveOwnNumbers [] = Unit {0}
+HaveOwnNumbers (f ∷ files) = OfEachFile (λ g. g.ino ≢ f.ino) files × HaveOwnNumbers files
 
 -- a region has as many words as at its newest persist, and a block so many bytes as at its newest
 -- flush
@@ -90,6 +127,8 @@ pub record IsShown (world : World) : Type 0 where
   pub files : OfEachFile (IsFileShown world.drive) world.files
   pub apart : AllApart world.files
   pub placed : OfEachFile (IsPlaced world.drive) world.files
+  pub equipped : OfEachFile IsFileEquipped world.files
+  pub numbers : HaveOwnNumbers world.files
   pub even : IsEven world.drive
   pub tree : IsTreeShown world
 
@@ -117,6 +156,12 @@ keeps_shown (forms.Post c fd offset n) = true
 keeps_shown (forms.Serve c fd place) = true
 keeps_shown (forms.Dispatch ino place) = true
 keeps_shown (forms.Apply ino place) = true
+keeps_shown (forms.Finish ino place) = true
+keeps_shown (forms.Skip ino place) = true
+keeps_shown (forms.Trim ino) = true
+keeps_shown (forms.Settle ino) = true
+keeps_shown forms.Turn = true
+keeps_shown forms.Drain = true
 keeps_shown (forms.Queue c fd) = true
 keeps_shown (forms.Stop n) = true
 keeps_shown forms.Mount = true
@@ -133,10 +178,20 @@ abbrev pub IsRead : ℕ → ℕ → World → Type 0
 IsRead c fd world =
     (d : Descriptor) → descriptor_in world c fd ≡ Some d → NothingLive (core_in world d.grant.ino)
 
--- A step is made of a job of a file whose core has not ended, and what is read has nothing in its
+-- no core has ended
+abbrev pub NoneHasEnded : World → Type 0
+NoneHasEnded world = OfEachFile (λ f. f.ended ≡ false) world.files
+
+-- A worker's line is about files whose cores have not ended, and what is read has nothing in its
 -- way.
 abbrev pub Suits : World → Form → Type 0
 Suits world (forms.Apply ino place) = (file_in world ino).ended ≡ false
+Suits world (forms.Finish ino place) = (file_in world ino).ended ≡ false
+Suits world (forms.Skip ino place) = (file_in world ino).ended ≡ false
+Suits world (forms.Settle ino) = (file_in world ino).ended ≡ false
+Suits world (forms.Trim ino) = NoneHasEnded world
+Suits world forms.Turn = NoneHasEnded world
+Suits world forms.Drain = NoneHasEnded world
 Suits world (forms.Read c fd n) = IsRead c fd world
 Suits world (forms.Pread c fd offset n) = IsRead c fd world
 Suits world (forms.Fsync c fd) = IsRead c fd world
