@@ -1,3 +1,6 @@
 mod journal;
+mod slots;
+mod store;
+mod survey;
 mod tables;
 mod tags;
