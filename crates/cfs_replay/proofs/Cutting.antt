@@ -1,6 +1,6 @@
 -- The pieces of a request, one after another, and what they are together.
-use Rattle.std.proofs.Common.{ℕ, zero, suc, ◌+◌, ◌-◌, ◌*◌, ◌/◌, ◌%◌, ◌<◌, ◌≤◌, ◌≡◌, ◌∙◌}
-use Rattle.std.proofs.Common.{Option, Some, None, List, [], ◌∷◌, ◌++◌, length, map, get_or}
+use Rattle.std.proofs.Common.{ℕ, zero, suc, ◌+◌, ◌-◌, ◌/◌, ◌%◌, ◌<◌, ◌≤◌, ◌≡◌, ◌∙◌}
+use Rattle.std.proofs.Common.{Option, Some, None, List, [], ◌∷◌, ◌++◌, length, get_or}
 use Rattle.std.proofs.Common.{inl, inr, refl, sym, ap, subst, arith, append_assoc}
 use Rattle.std.specs.List.{cons_option, filter_map, range_with_len}
 use Rattle.std.specs.Option.{option_map, option_to_list}
@@ -19,7 +19,7 @@ use Rattle.cfs_recover.specs.declared.piece.Piece.{Piece}
 use Rattle.cfs_recover.specs.Brought.{AreAllPieces}
 use Rattle.cfs_recover.specs.Cut.{piece_in, zeros_in}
 use Rattle.cfs_recover.specs.Held.{AllBring, Brings, IsInPiece, SomeHas}
-use Rattle.cfs_recover.specs.Pieces.{ArePieces, LiesWithin}
+use Rattle.cfs_recover.specs.Pieces.{LiesWithin}
 use Rattle.cfs_recover.proofs.Ranges.{truncates-cut, writes-cut}
 use Rattle.cfs_replay.specs.Pieces.{BlockMap, FindsBlocks, found_at, pieces_for, write_pieces}
 use Rattle.cfs_replay.specs.Pieces.{zero_pieces}

@@ -3,3 +3,4 @@ pub mod Payloads
 pub mod Cutting
 pub mod OneEntry
 pub mod Replays
+pub mod Orders

@@ -1,18 +1,17 @@
 -- One live entry: what was read of it, and what stands behind it.
-use Rattle.std.proofs.Common.{ℕ, zero, suc, ◌+◌, ◌-◌, ◌*◌, ◌/◌, ◌%◌, ◌^◌, ◌==◌, ◌<◌, ◌≤◌, ◌≡◌, ◌≢◌}
+use Rattle.std.proofs.Common.{ℕ, zero, suc, ◌+◌, ◌*◌, ◌/◌, ◌%◌, ◌==◌, ◌<◌, ◌≤◌, ◌≡◌, ◌≢◌}
 use Rattle.std.proofs.Common.{◌∙◌, Bool, true, false, if◌then◌else◌, nat_lt, max, Some, None}
-use Rattle.std.proofs.Common.{Option, Result, Ok, Err, OnOk, List, [], ◌∷◌, ◌++◌, length, map}
+use Rattle.std.proofs.Common.{Result, Ok, Err, OnOk, List, [], ◌∷◌, ◌++◌, length, map}
 use Rattle.std.proofs.Common.{take, drop, get_or, set, inl, refl, sym, ap, subst, arith}
-use Rattle.std.specs.List.{Contains, flat_map}
+use Rattle.std.specs.List.{flat_map}
 use Rattle.std.proofs.lemmas.Bool.Decides.{nat_tests}
 use Rattle.std.proofs.lemmas.List.{drop-set-add, drop-set-lt, get_or-drop, get_or-map}
 use Rattle.std.proofs.lemmas.List.{length-map, length-set, map-set}
 use Rattle.cfs_file.specs.declared.request.Request.{Request}
 use Rattle.cfs_file.specs.declared.request.Request.TheVariants as requests
 use Rattle.cfs_pmem.specs.declared.trace.Asked.{Asked}
-use Rattle.cfs_pmem.specs.AllMoments.{AreDistinct}
 use Rattle.cfs_pmem.specs.Images.{Seen, WordStep, IsImage, kept, words_of, wrote}
-use Rattle.cfs_pmem.specs.Objects.{IsCallOn, IsEachImage, MomentsOf, seen_at}
+use Rattle.cfs_pmem.specs.Objects.{IsCallOn, IsEachImage, seen_at}
 use Rattle.cfs_pmem.proofs.AllMomentLemmas.{Carries, all_after, all_among}
 use Rattle.cfs_block.specs.BlockImages.{BlockStep, Content, IsBlockImage, content_of}
 use Rattle.cfs_block.specs.BlockImages as blocks_are
@@ -20,12 +19,12 @@ use Rattle.cfs_block.specs.Devices.{AreImagesOf, DeviceImages, IsDeviceCall, num
 use Rattle.cfs_slot.specs.declared.fields.Found.{Found}
 use Rattle.cfs_slot.specs.Payload.{HaveCause, NoneFell, SomeRose}
 use Rattle.cfs_slot.specs.Tails.{numbers_from, numbers_in, tails_at}
-use Rattle.cfs_slot.specs.Words.{area_of, count_of, found_of, is_live, kind_of, live_entry}
+use Rattle.cfs_slot.specs.Words.{area_of, count_of, is_live, kind_of, live_entry}
 use Rattle.cfs_slot.specs.Words.{gate_of, offset_of, payload_of, request_of, tails_of}
 use Rattle.cfs_medium.specs.Depicts.{content_at}
 use Rattle.cfs_medium.specs.Store.{entry_at}
-use Rattle.cfs_home.specs.Calls.{MountMoments, disk_of, size_in}
-use Rattle.cfs_home.specs.Disks.{AllStay, Disk, File, IsMapped, shut}
+use Rattle.cfs_home.specs.Calls.{MountMoments, disk_of}
+use Rattle.cfs_home.specs.Disks.{AllStay, Disk, File, shut}
 use Rattle.cfs_home.specs.Parts.{size_after}
 use Rattle.cfs_home.proofs.Disks.{same-stays}
 use Rattle.cfs_recover.specs.declared.entry.Entry.{Entry}
@@ -41,7 +40,7 @@ use Rattle.cfs_recover.proofs.BlockCalls.{on-ok}
 use Rattle.cfs_recover.proofs.Lists.{cause-front}
 use Rattle.cfs_recover.proofs.Only.{have-read, words-now}
 use Rattle.cfs_replay.specs.declared.pending.Pending.{Pending}
-use Rattle.cfs_replay.specs.Entries.{BringsHome, HaveTags, IsBehind, IsNext, IsTakenUp, file_of}
+use Rattle.cfs_replay.specs.Entries.{BringsHome, IsBehind, IsNext, IsTakenUp, file_of}
 use Rattle.cfs_replay.specs.Entries.{lengths_of}
 use Rattle.cfs_replay.specs.Pieces.{tags_in}
 use Rattle.cfs_replay.specs.Reading.{LeavesAll, places_of, slots_in, words_at}

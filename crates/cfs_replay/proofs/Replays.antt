@@ -1,16 +1,13 @@
 -- Live entries that are brought home one after another.
-use Rattle.std.proofs.Common.{ℕ, zero, suc, ◌+◌, ◌*◌, ◌/◌, ◌<◌, ◌≤◌, ◌≡◌, ◌∙◌, List, [], ◌∷◌}
-use Rattle.std.proofs.Common.{length, map, drop, get_or, set, inl, inr, refl, sym, ap, subst, arith}
+use Rattle.std.proofs.Common.{ℕ, zero, suc, ◌+◌, ◌<◌, ◌≡◌, ◌∙◌, List, [], ◌∷◌}
+use Rattle.std.proofs.Common.{length, drop, get_or, set, inr, refl, sym, ap, subst, arith}
 use Rattle.std.proofs.Common.{Result, Err}
-use Rattle.std.specs.List.{Contains}
 use Rattle.std.proofs.lemmas.List.{length-map}
 use Rattle.cfs_file.specs.declared.request.Request.{Request}
 use Rattle.cfs_file.specs.declared.request.Request.TheVariants as requests
 use Rattle.cfs_pmem.specs.Images.{Seen, WordStep, words_of}
 use Rattle.cfs_block.specs.BlockImages.{BlockStep, Content}
 use Rattle.cfs_slot.specs.Payload.{HaveCause, NoneFell, SomeRose}
-use Rattle.cfs_medium.specs.Depicts.{IsFor}
-use Rattle.cfs_medium.specs.Store.{by_gate, live_in}
 use Rattle.cfs_home.specs.Disks.{Disk, File, IsMapped, shut}
 use Rattle.cfs_home.specs.Ends.{IsClosedOrLive}
 use Rattle.cfs_home.proofs.Ends.{shut-swept}
@@ -18,7 +15,7 @@ use Rattle.cfs_recover.specs.Begins.{Stands}
 use Rattle.cfs_recover.specs.Words.{HaveFirstWords}
 use Rattle.cfs_replay.specs.declared.pending.Pending.{Pending}
 use Rattle.cfs_replay.specs.Entries.{AreInOrder, CanReplay, HaveLeft, HaveTags, HoldsWhole}
-use Rattle.cfs_replay.specs.Entries.{IsBehind, IsNext, lengths_of}
+use Rattle.cfs_replay.specs.Entries.{IsBehind, lengths_of}
 use Rattle.cfs_replay.specs.Pieces.{BlockMap, FindsBlocks}
 use Rattle.cfs_replay.specs.Reading.{AreSlots, slots_in, words_at}
 use Rattle.cfs_replay.proofs.OneEntry.{slot-words}

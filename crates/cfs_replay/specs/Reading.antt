@@ -1,5 +1,5 @@
 -- Words that are read of regions, before a mount changes anything.
-use Rattle.std.specs.Prelude.{ℕ, ◌+◌, ◌*◌, ◌/◌, ◌<◌, ◌≡◌, List, ◌∷◌, length, map, drop, get_or}
+use Rattle.std.specs.Prelude.{ℕ, ◌+◌, ◌*◌, ◌/◌, ◌<◌, ◌≡◌, List, ◌∷◌, length, map, drop}
 use Rattle.cfs_pmem.specs.declared.trace.Asked.{Asked}
 use Rattle.cfs_pmem.specs.Images.{Seen, WordStep, IsImage, words_of}
 use Rattle.cfs_pmem.specs.Objects.{IsEachImage, MomentsOf, seen_at}

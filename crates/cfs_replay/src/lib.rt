@@ -3,6 +3,7 @@
 #![tactic(auto)]
 
 mod entries;
+mod laws;
 mod one;
 mod payload;
 mod pending;
@@ -10,6 +11,7 @@ mod pieces;
 mod reading;
 
 pub use entries::replay_entries;
+pub use laws::listed_entries_are_in_order;
 pub use one::{bring_truncate, bring_write, replay_entry};
 pub use payload::{MOST_PLACES, places_of, read_payload};
 pub use pending::Pending;

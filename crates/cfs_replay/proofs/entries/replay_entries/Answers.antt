@@ -1,5 +1,5 @@
-use Rattle.std.proofs.Common.{ℕ, ◌+◌, ◌*◌, ◌/◌, ◌++◌, ◌∷◌, ◌≡◌, ◌∙◌, List, length, map, drop}
-use Rattle.std.proofs.Common.{get_or, refl, ap, sym, subst, arith}
+use Rattle.std.proofs.Common.{ℕ, ◌+◌, ◌++◌, ◌∷◌, ◌∙◌, List, map, drop}
+use Rattle.std.proofs.Common.{get_or, refl, sym, subst, arith}
 use Rattle.std.proofs.lemmas.List.{drop_all, length-map}
 use Rattle.std.proofs.lemmas.Result.{err_from_is_err_and}
 use Rattle.cfs_pmem.specs.AllMoments.{AreDistinct}

@@ -1,4 +1,4 @@
-use Rattle.std.proofs.Common.{ℕ, ◌≡◌, ◌<◌, ◌∙◌, List, map, length, get_or, refl, ap, sym, subst}
+use Rattle.std.proofs.Common.{ℕ, ◌<◌, ◌∙◌, List, map, length, get_or, refl, ap, sym, subst}
 use Rattle.std.proofs.lemmas.List.{length-map}
 use Rattle.cfs_file.specs.declared.request.Request.TheVariants.{Truncate}
 use Rattle.cfs_block.specs.BlockImages.{Content, content_of}

@@ -1,4 +1,4 @@
-use Rattle.std.proofs.Common.{ℕ, ◌≡◌, ◌+◌, ◌-◌, ◌*◌, ◌/◌, ◌∷◌, map, sym, arith}
+use Rattle.std.proofs.Common.{ℕ, ◌+◌, ◌-◌, ◌*◌, ◌/◌, ◌∷◌, map, arith}
 use Rattle.cfs_slot.specs.Tails.{numbers_from, numbers_in}
 use Rattle.cfs_replay.proofs.Payloads.{places-done, places-more}
 use Rattle.cfs_replay.proofs.payload.places_of.Goals as goal

@@ -1,5 +1,5 @@
 use Rattle.std.proofs.Common.{ℕ, ◌+◌, ◌*◌, ◌/◌, ◌%◌, ◌<◌, ◌≤◌, ◌≡◌, ◌∙◌, List, [], length, map}
-use Rattle.std.proofs.Common.{get_or, refl, sym, ap, arith}
+use Rattle.std.proofs.Common.{get_or, sym, ap, arith}
 use Rattle.std.specs.Int.{w64, to_le_bytes}
 use Rattle.std.proofs.lemmas.List.{get_or-map, length-map}
 use Rattle.cfs_pmem.specs.Images.{Seen, WordStep}

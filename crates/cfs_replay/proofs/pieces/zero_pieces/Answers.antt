@@ -1,4 +1,4 @@
-use Rattle.std.proofs.Common.{ℕ, Option, List, ◌+◌, ◌-◌, ◌/◌, ◌≡◌, ◌≤◌, ◌∙◌, ◌++◌, length, ap, arith}
+use Rattle.std.proofs.Common.{ℕ, Option, ◌+◌, ◌-◌, ◌∙◌, ◌++◌, ap, arith}
 use Rattle.std.specs.Option.{option_map, option_to_list}
 use Rattle.cfs_recover.specs.declared.piece.Piece.{Piece}
 use Rattle.cfs_recover.specs.Cut.{zeros_in}
