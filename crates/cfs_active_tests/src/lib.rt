@@ -3,14 +3,8 @@
 #![tactic(auto)]
 
 #[cfg(test)]
-mod crash;
-#[cfg(test)]
 mod rig;
 #[cfg(test)]
-mod runs;
-#[cfg(test)]
 mod staging;
-#[cfg(test)]
-mod step;
 #[cfg(test)]
 mod tests;
