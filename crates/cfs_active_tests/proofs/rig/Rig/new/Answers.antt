@@ -5,13 +5,9 @@ use Rattle.cfs_active_tests.proofs.rig.Rig.new.Goals as goal
 
 pub new-requires : goal.new-requires
 new-requires c =
-    let size = sym c.in_ok-size.ensures in (
-      lit< tt,
-      (
-        subst (λ (s : Seen WordStep). 0 < length (words_of s)) size (lit< tt),
-        (
-          subst IsSure size (sure_began 69 (0 ∷ [])),
-          subst (λ (s : Seen WordStep). get_or (words_of s) 0 0 ≡ 0) size refl,
-        ),
-      ),
-    )
+    let size = sym c.in_ok-size.ensures in record {
+      number = lit< tt;
+      sized = subst (λ (s : Seen WordStep). 0 < length (words_of s)) size (lit< tt);
+      sure = subst IsSure size (sure_began 69 (0 ∷ []));
+      empty = subst (λ (s : Seen WordStep). get_or (words_of s) 0 0 ≡ 0) size refl;
+    }
