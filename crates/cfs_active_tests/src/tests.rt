@@ -1,8 +1,7 @@
 use crate::rig::Rig;
 use std::test::Fail;
 
-/// Two appends, then what carrying them out gives: the second one, which wants the block of the
-/// first, is tried before it.
+/// Two appends, and then what carrying them out gives, the first one first.
 fn two_appends(rig: &mut Rig) -> Result<[(u64, u64); 4], Fail> {
     let first = rig.append(100, 1)?;
     let second = rig.append(50, 2)?;
