@@ -8,6 +8,7 @@ mod one;
 mod payload;
 mod pending;
 mod pieces;
+mod plan;
 mod reading;
 
 pub use entries::replay_entries;
@@ -16,4 +17,5 @@ pub use one::{bring_truncate, bring_write, replay_entry};
 pub use payload::{MOST_PLACES, places_of, read_payload};
 pub use pending::Pending;
 pub use pieces::{MOST_PIECES, write_pieces, zero_pieces};
+pub use plan::Plan;
 pub use reading::{read_found, read_word};
