@@ -26,7 +26,7 @@ use Rattle.cfs_medium.specs.Store.{entry_at}
 use Rattle.cfs_home.specs.Calls.{MountMoments, disk_of}
 use Rattle.cfs_home.specs.Disks.{AllStay, Disk, File, shut}
 use Rattle.cfs_home.specs.Parts.{size_after}
-use Rattle.cfs_home.proofs.Disks.{same-stays}
+use Rattle.cfs_home.proofs.Disks.{all-same}
 use Rattle.cfs_recover.specs.declared.entry.Entry.{Entry}
 use Rattle.cfs_recover.specs.declared.piece.Piece.{Piece}
 use Rattle.cfs_recover.specs.Begins.{Stands, both}
@@ -357,9 +357,9 @@ reads-moments files start first olds news blocks stands leaves =
   where
     there : (images : DeviceImages) → IsEachImage IsImage olds images.words →
         IsEachImage IsBlockImage blocks images.contents → AllStay files start (disk_of images)
-    there images words contents file among =
+    there images words contents =
         let are = stands.words images.words words in
-        same-stays file start first (disk_of images) (stands.stay file among) are.sizes are.slots
+        all-same files start first (disk_of images) stands.stay are.front are.sizes are.slots
         (stands.blocks_are images.contents contents)
 
 pub reads-then : {T E : Type 0} (pending : Pending) (result : Result T E)
