@@ -115,8 +115,8 @@ pub record CanReplay (found : BlockMap) (tags : List ℕ) (regions : List (Seen 
   pub finds : FindsBlocks pending.ino found tags
 
 -- A mount has come to a disk where these entries are left, and finds the files of `start` there. A
--- crash leaves no other disk. Tags and the sizes of what is no file are as at first, and no slot was
--- opened.
+-- crash leaves no other disk. Tags and the sizes of what is no file are as at first, and no slot
+-- was opened.
 pub record HaveLeft (files : List File) (start first : Disk) (left : List Pending)
     (regions : List (Seen WordStep)) (blocks : List (Seen BlockStep)) : Type 0 where
   pub now : Disk
