@@ -26,7 +26,7 @@ use Rattle.cfs_medium.specs.Store.{entry_at}
 use Rattle.cfs_home.specs.Calls.{MountMoments, disk_of}
 use Rattle.cfs_home.specs.Disks.{AllStay, Disk, File, shut}
 use Rattle.cfs_home.specs.Parts.{size_after}
-use Rattle.cfs_home.proofs.Disks.{same-stays}
+use Rattle.cfs_home.proofs.Disks.{all-same}
 use Rattle.cfs_recover.specs.declared.entry.Entry.{Entry}
 use Rattle.cfs_recover.specs.declared.piece.Piece.{Piece}
 use Rattle.cfs_recover.specs.Begins.{Stands, both}
@@ -39,6 +39,7 @@ use Rattle.cfs_recover.specs.Words.{with_first}
 use Rattle.cfs_recover.proofs.BlockCalls.{on-ok}
 use Rattle.cfs_recover.proofs.Lists.{cause-front}
 use Rattle.cfs_recover.proofs.Only.{have-read, words-now}
+use Rattle.cfs_recover.proofs.Settled.{with-size-sets}
 use Rattle.cfs_replay.specs.declared.pending.Pending.{Pending}
 use Rattle.cfs_replay.specs.Entries.{BringsHome, IsBehind, IsNext, IsTakenUp, file_of}
 use Rattle.cfs_replay.specs.Entries.{lengths_of}
@@ -324,7 +325,7 @@ module _ {T E : Type 0} (pending : Pending) (entry : Entry) (bytes : List ℕ)
           OnOk r ((files : List File) (start first : Disk) →
           Stands files start first olds blocks_old →
           IsNext files first.slots first.blocks pending →
-          IsBehind files start first pending.slot news blocks_new)
+          IsBehind files start first pending news blocks_new)
       both-ok (Err e) there same = tt
       both-ok (Ok t) there same = λ files start first has next. record {
         now = settled entry (with_blocks blocks_new first);
@@ -336,6 +337,9 @@ module _ {T E : Type 0} (pending : Pending) (entry : Entry) (bytes : List ℕ)
             ∙ (sym (tags-are blocks_old at)
             ∙ ap (λ (cs : List Content). (content_at cs at).tag)
             (have-read first blocks_old full has.blocks_are)));
+        sizes = λ other apart.
+            (with-size-sets entry.node entry.size_after first).others other
+            (λ same. apart (same ∙ (takes files start first has next).is.node));
       }
 
 -- ---- reads come first
@@ -357,9 +361,9 @@ reads-moments files start first olds news blocks stands leaves =
   where
     there : (images : DeviceImages) → IsEachImage IsImage olds images.words →
         IsEachImage IsBlockImage blocks images.contents → AllStay files start (disk_of images)
-    there images words contents file among =
+    there images words contents =
         let are = stands.words images.words words in
-        same-stays file start first (disk_of images) (stands.stay file among) are.sizes are.slots
+        all-same files start first (disk_of images) stands.stay are.front are.sizes are.slots
         (stands.blocks_are images.contents contents)
 
 pub reads-then : {T E : Type 0} (pending : Pending) (result : Result T E)

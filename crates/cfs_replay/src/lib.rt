@@ -10,6 +10,7 @@ mod pending;
 mod pieces;
 mod plan;
 mod reading;
+mod whole;
 
 pub use entries::replay_entries;
 pub use laws::listed_entries_are_in_order;
@@ -19,3 +20,4 @@ pub use pending::Pending;
 pub use pieces::{MOST_PIECES, write_pieces, zero_pieces};
 pub use plan::Plan;
 pub use reading::{read_found, read_word};
+pub use whole::replay;
