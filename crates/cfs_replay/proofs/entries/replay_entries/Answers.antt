@@ -86,6 +86,10 @@ returns-in_err-replay_entry-clause-moments g c = λ files start first stands ord
     all_after (c.loop-pending.invariant.moments files start first stands order)
     (c.replay_entry.ensures.home.moments files start left.now left.stands left.order.0)
 
+pub returns-in_err-replay_entry-clause-lengths : goal.returns-in_err-replay_entry-clause-lengths
+returns-in_err-replay_entry-clause-lengths g c =
+    c.replay_entry.ensures.home.lengths ∙ c.loop-pending.invariant.lengths
+
 pub returns-in_err-replay_entry-clause-devices : goal.returns-in_err-replay_entry-clause-devices
 returns-in_err-replay_entry-clause-devices g c =
     c.replay_entry.ensures.home.devices ∙ c.loop-pending.invariant.devices
@@ -125,12 +129,12 @@ loop-pending-preserved g c = record {
       (c.loop-pending.invariant.left files start first stands order) in
       left-behind files start first e (drop (i + 1) es) (map g.R.Region.seen c.loop-pending.regions) (map g.R.Region.seen c.replay_entry.new.regions) (map g.B.Block.seen c.loop-pending.blocks) (map g.B.Block.seen c.replay_entry.new.blocks) left
       (c.in_ok-replay_entry.ensures.home.stands files start left.now left.stands left.order.0);
-  lengths = c.in_ok-replay_entry.ensures.home.lengths ∙ c.loop-pending.invariant.lengths;
+  lengths = c.replay_entry.ensures.home.lengths ∙ c.loop-pending.invariant.lengths;
   tags = c.in_ok-replay_entry.ensures.home.tags ∙ c.loop-pending.invariant.tags;
   can = λ k d less.
       can-still c.args.found.now (tags_in (map g.B.Block.seen c.loop-pending.blocks)) (tags_in (map g.B.Block.seen c.replay_entry.new.blocks)) (map g.R.Region.seen c.loop-pending.regions) (map g.R.Region.seen c.replay_entry.new.regions) _
       (get_or c.args.entries.now k d) c.in_ok-replay_entry.ensures.home.slots
-      c.in_ok-replay_entry.ensures.home.lengths c.in_ok-replay_entry.ensures.home.tags
+      c.replay_entry.ensures.home.lengths c.in_ok-replay_entry.ensures.home.tags
       (c.loop-pending.invariant.can k d less);
   devices = c.replay_entry.ensures.home.devices ∙ c.loop-pending.invariant.devices;
   size = c.replay_entry.ensures.buffer;

@@ -159,6 +159,7 @@ returns-clause-home g c =
     (sym (have-read first seens full stands.blocks_are)) ∙ tags-are seens at)
     c.requires.finds head.offset bytes fits)))
     c.bring_home.ensures.moments c.bring_home.ensures.stands c.bring_home.ensures.regions
+    c.bring_home.ensures.lengths
     (on-ok c.bring_home.result
     (λ is. ap tags_in is
     ∙ (tags-flushes c.deref-2.result.now (with_writes c.deref-2.result.now bytes seens)
