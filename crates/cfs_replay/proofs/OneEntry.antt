@@ -163,7 +163,8 @@ pub places-in : (slot tails n : ℕ) → 323 + (slot / 16 * 16 + 15) < n → (k 
 places-in slot tails n room zero less = (slot, (refl, omega arith))
 places-in slot tails n room (suc k) less =
     let f = λ (number : ℕ). 323 + (slot / 16 * 16 + number) in
-    let inside : k < length (numbers_in tails) = omega (arith, less, length-map (numbers_in tails) f) in
+    let inside : k < length (numbers_in tails) = omega
+    (arith, less, length-map (numbers_in tails) f) in
     let few = numbers-few tails k inside in (
       slot / 16 * 16 + get_or (numbers_in tails) k 0,
       (get_or-map f (numbers_in tails) k 0 0 inside, omega arith),

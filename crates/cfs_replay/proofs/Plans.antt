@@ -384,7 +384,8 @@ pub finds-home : (files : List File) (file : File) (start first : Disk) (found :
     (olds news : List (Seen WordStep)) (blocks_old blocks_new : List (Seen BlockStep)) →
     AreFull blocks_old → AreFull blocks_new → Contains files file →
     Stands files start first olds blocks_old → IsBroughtHome files start first news blocks_new →
-    FindsBlocks file.ino found (tags_in blocks_old) → FindsBlocks file.ino found (tags_in blocks_new)
+    FindsBlocks file.ino found (tags_in blocks_old) → FindsBlocks file.ino found
+    (tags_in blocks_new)
 finds-home files file start first found olds news blocks_old blocks_new full_old full_new among
     stands home finds block at less = elim (home.kept at) [
       | inl same ↦ subst (λ (tag : ℕ).
