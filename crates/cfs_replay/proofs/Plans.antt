@@ -11,7 +11,7 @@ use Rattle.cfs_pmem.specs.Images.{Seen, WordStep, words_of}
 use Rattle.cfs_block.specs.BlockImages.{BlockStep, Content, with_tag}
 use Rattle.cfs_slot.specs.Tails.{tails_at}
 use Rattle.cfs_medium.specs.Depicts.{content_at}
-use Rattle.cfs_medium.specs.Store.{by_gate, entry_at, live_in}
+use Rattle.cfs_medium.specs.Store.{by_gate, entry_at, live_in, tag_of}
 use Rattle.cfs_medium.proofs.Has.{Has, has-contained}
 use Rattle.cfs_medium.proofs.Slots.{not_live-none}
 use Rattle.cfs_home.specs.Calls.{AreWordsOf, HaveBlocksOf, HaveWordsOf, with_size}
@@ -21,20 +21,21 @@ use Rattle.cfs_home.proofs.Ends.{ends-closed, ends-stored, shut-swept}
 use Rattle.cfs_home.proofs.Slots.{shut-same}
 use Rattle.cfs_recover.specs.Begins.{Stands}
 use Rattle.cfs_recover.specs.Held.{AreFull}
-use Rattle.cfs_recover.specs.Swept.{AreDead, AreNoNodes, all_empty, all_shut, with_no_sizes}
+use Rattle.cfs_recover.specs.Swept.{AreDead, AreNoNodes, all_empty, all_shut}
 use Rattle.cfs_recover.specs.Swept.{with_shut}
 use Rattle.cfs_recover.specs.Untagged.{AreNoTags, all_untagged, untagged_at}
 use Rattle.cfs_recover.specs.Words.{with_first}
 use Rattle.cfs_recover.proofs.Only.{have-read, words-now}
 use Rattle.cfs_recover.proofs.Settled.{with-size-sets}
 use Rattle.cfs_recover.proofs.Swept.{dead-still}
+use Rattle.cfs_recover.proofs.WordCalls.{lengths-first}
 use Rattle.cfs_replay.specs.declared.pending.Pending.{Pending}
 use Rattle.cfs_replay.specs.declared.plan.Plan.{Plan}
-use Rattle.cfs_replay.specs.Entries.{AreInOrder, CanReplay, HaveLeft, lengths_of}
-use Rattle.cfs_replay.specs.Pieces.{BlockMap}
+use Rattle.cfs_replay.specs.Entries.{AreInOrder, CanReplay, HaveLeft}
+use Rattle.cfs_replay.specs.Pieces.{BlockMap, FindsBlocks, found_at, tags_in}
 use Rattle.cfs_replay.specs.Plans.{IsBroughtHome, IsPlanFor, IsTagKept, IsTagOrFree}
 use Rattle.cfs_replay.specs.Plans.{disk_in}
-use Rattle.cfs_replay.proofs.OneEntry.{lengths-first, slots-shut}
+use Rattle.cfs_replay.proofs.OneEntry.{slots-shut, tags-are}
 use Rattle.cfs_replay.proofs.Orders.{still-stands}
 use Rattle.cfs_replay.proofs.Replays.{can-still}
 
@@ -153,18 +154,6 @@ shut-closed files (place ∷ places) disk at (inr (inr more)) =
     shut-closed files places (record disk { slots = shut place disk.slots }) at (inr more)
 
 -- ---- regions behind it
-
-pub lengths-shut : (places : List ℕ) (regions : List (Seen WordStep)) →
-    lengths_of (with_shut places regions) ≡ lengths_of regions
-lengths-shut [] regions = refl
-lengths-shut (at ∷ places) regions =
-    lengths-shut places (with_first (323 + at) 0 regions) ∙ lengths-first (323 + at) 0 regions
-
-pub lengths-emptied : (nodes : List ℕ) (regions : List (Seen WordStep)) →
-    lengths_of (with_no_sizes nodes regions) ≡ lengths_of regions
-lengths-emptied [] regions = refl
-lengths-emptied (node ∷ nodes) regions =
-    lengths-emptied nodes (with_first (67 + node) 0 regions) ∙ lengths-first (67 + node) 0 regions
 
 pub can-shut : (found : BlockMap) (tags : List ℕ) (places : List ℕ)
     (regions : List (Seen WordStep)) (entry : Pending) → CanReplay found tags regions entry →
@@ -387,3 +376,37 @@ module _ (files : List File) (start first : Disk) (plan : Plan)
         kept = kept;
         sizes = sizes;
       }
+
+-- ---- behind the end
+
+-- a map of tags finds the blocks of each file still
+pub finds-home : (files : List File) (file : File) (start first : Disk) (found : BlockMap)
+    (olds news : List (Seen WordStep)) (blocks_old blocks_new : List (Seen BlockStep)) →
+    AreFull blocks_old → AreFull blocks_new → Contains files file →
+    Stands files start first olds blocks_old → IsBroughtHome files start first news blocks_new →
+    FindsBlocks file.ino found (tags_in blocks_old) → FindsBlocks file.ino found
+    (tags_in blocks_new)
+finds-home files file start first found olds news blocks_old blocks_new full_old full_new among
+    stands home finds block at less = elim (home.kept at) [
+      | inl same ↦ subst (λ (tag : ℕ).
+          (found_at found file.ino block ≡ Some at → tag ≡ tag_of file.ino block)
+          × (tag ≡ tag_of file.ino block → found_at found file.ino block ≡ Some at))
+          (sym (now_is ∙ (same ∙ sym was_is))) (finds block at less)
+      | inr freed_one ↦ (
+        λ is. absurd (freed_one.1 file among block less
+            (sym was_is ∙ (finds block at less).0 is)),
+        λ is. absurd (let free = freed_one.0 in omega (arith, free, is, now_is)),
+      )
+    ]
+  where
+    was_is : get_or (tags_in blocks_old) at 0 ≡ tag_in first at
+    was_is =
+        sym (tags-are blocks_old at)
+        ∙ ap (λ (cs : List Content). (content_at cs at).tag)
+        (have-read first blocks_old full_old stands.blocks_are)
+
+    now_is : get_or (tags_in blocks_new) at 0 ≡ tag_in home.now at
+    now_is =
+        sym (tags-are blocks_new at)
+        ∙ ap (λ (cs : List Content). (content_at cs at).tag)
+        (have-read home.now blocks_new full_new home.stands.blocks_are)

@@ -12,10 +12,10 @@ use Rattle.cfs_home.specs.Disks.{Disk, File, IsMapped, shut}
 use Rattle.cfs_home.specs.Ends.{IsClosedOrLive}
 use Rattle.cfs_home.proofs.Ends.{shut-swept}
 use Rattle.cfs_recover.specs.Begins.{Stands}
-use Rattle.cfs_recover.specs.Words.{HaveFirstWords}
+use Rattle.cfs_recover.specs.Words.{HaveFirstWords, lengths_of}
 use Rattle.cfs_replay.specs.declared.pending.Pending.{Pending}
 use Rattle.cfs_replay.specs.Entries.{AreInOrder, CanReplay, HaveLeft, HaveTags, HoldsWhole}
-use Rattle.cfs_replay.specs.Entries.{IsBehind, file_of, lengths_of}
+use Rattle.cfs_replay.specs.Entries.{IsBehind, file_of}
 use Rattle.cfs_replay.specs.Pieces.{BlockMap, FindsBlocks}
 use Rattle.cfs_replay.specs.Reading.{AreSlots, slots_in, words_at}
 use Rattle.cfs_replay.proofs.OneEntry.{slot-words}

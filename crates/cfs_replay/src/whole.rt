@@ -6,9 +6,9 @@ ghost use Rattle.cfs_home.specs.Calls.{MountMoments};
 ghost use Rattle.cfs_home.specs.Disks.{Disk, File};
 ghost use Rattle.cfs_slot.specs.Payload.{HaveCause};
 ghost use Rattle.cfs_recover.specs.Begins.{Stands, both};
-ghost use Rattle.cfs_recover.specs.Words.{HaveFirstWords};
+ghost use Rattle.cfs_recover.specs.Words.{HaveFirstWords, lengths_of};
 ghost use Rattle.cfs_replay.specs.declared.pending.Pending.{Pending};
-ghost use Rattle.cfs_replay.specs.Entries.{CanReplay, lengths_of};
+ghost use Rattle.cfs_replay.specs.Entries.{CanReplay};
 ghost use Rattle.cfs_replay.specs.Pieces.{tags_in};
 ghost use Rattle.cfs_replay.specs.Plans.{IsBroughtHome, IsPlanFor, IsWithin};
 ghost use Rattle.cfs_replay.specs.Reading.{AreSlots};
@@ -56,8 +56,7 @@ pub fn replay<R: Region, B: Block, P: Power>(
         Stands files start first (map R.seen regions.old) (map B.seen blocks.old) →
         IsPlanFor files first plan.now →
         IsBroughtHome files start first (map R.seen regions.new) (map B.seen blocks.new)) }
-    ensures lengths { OnOk result
-        (lengths_of (map R.seen regions.new) ≡ lengths_of (map R.seen regions.old)) }
+    ensures lengths { lengths_of (map R.seen regions.new) ≡ lengths_of (map R.seen regions.old) }
     ensures devices { numbers_of (both (map R.seen regions.new) (map B.seen blocks.new))
         ≡ numbers_of (both (map R.seen regions.old) (map B.seen blocks.old)) }
     ensures numbers { map B.number blocks.new ≡ map B.number blocks.old }

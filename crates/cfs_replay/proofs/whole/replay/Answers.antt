@@ -11,11 +11,11 @@ use Rattle.cfs_recover.proofs.BlockCalls.{on-ok}
 use Rattle.cfs_recover.proofs.Lists.{cause-front, distinct-back, distinct-front, distinct-regions}
 use Rattle.cfs_recover.proofs.Lists.{failed-back, full-all}
 use Rattle.cfs_replay.specs.declared.pending.Pending.{Pending}
-use Rattle.cfs_replay.specs.Entries.{CanReplay, HaveLeft, lengths_of}
+use Rattle.cfs_replay.specs.Entries.{CanReplay, HaveLeft}
 use Rattle.cfs_replay.specs.Pieces.{tags_in}
 use Rattle.cfs_replay.proofs.OneEntry.{failed-front}
-use Rattle.cfs_replay.proofs.Plans.{are-dead, brought-home, can-shut, in-order, lengths-emptied}
-use Rattle.cfs_replay.proofs.Plans.{lengths-shut, no-nodes, no-tags}
+use Rattle.cfs_replay.proofs.Plans.{are-dead, brought-home, can-shut, in-order}
+use Rattle.cfs_replay.proofs.Plans.{no-nodes, no-tags}
 use Rattle.cfs_replay.proofs.Replays.{slots-still, words-still}
 use Rattle.cfs_replay.proofs.whole.replay.Goals as goal
 
@@ -57,17 +57,13 @@ pub replay_entries-requires-clause-slots : goal.replay_entries-requires-clause-s
 replay_entries-requires-clause-slots g c =
     slots-still (map g.R.Region.seen c.args.regions.now)
     (map g.R.Region.seen c.close_dead.new.regions)
-    (ap lengths_of c.in_ok-close_dead.ensures.ok
-    ∙ lengths-shut c.deref.result.now (map g.R.Region.seen c.args.regions.now))
-    c.requires.slots
+    c.close_dead.ensures.lengths c.requires.slots
 
 pub replay_entries-requires-clause-words : goal.replay_entries-requires-clause-words
 replay_entries-requires-clause-words g c =
     words-still (map g.R.Region.seen c.args.regions.now)
     (map g.R.Region.seen c.close_dead.new.regions)
-    (ap lengths_of c.in_ok-close_dead.ensures.ok
-    ∙ lengths-shut c.deref.result.now (map g.R.Region.seen c.args.regions.now))
-    c.requires.words
+    c.close_dead.ensures.lengths c.requires.words
 
 pub returns-in_err-replay_entries-clause-moments :
     goal.returns-in_err-replay_entries-clause-moments
@@ -128,10 +124,7 @@ pub clear_sizes-requires-clause-words : goal.clear_sizes-requires-clause-words
 clear_sizes-requires-clause-words g c =
     words-still (map g.R.Region.seen c.args.regions.now)
     (map g.R.Region.seen c.replay_entries.new.regions)
-    (c.in_ok-replay_entries.ensures.lengths
-    ∙ (ap lengths_of c.in_ok-close_dead.ensures.ok
-    ∙ lengths-shut c.deref.result.now (map g.R.Region.seen c.args.regions.now)))
-    c.requires.words
+    (c.replay_entries.ensures.lengths ∙ c.close_dead.ensures.lengths) c.requires.words
 
 pub clear_sizes-requires-clause-distinct : goal.clear_sizes-requires-clause-distinct
 clear_sizes-requires-clause-distinct g c =
@@ -194,13 +187,9 @@ returns-clause-home g c = on-ok c.clear_sizes.result
     c.clear_sizes.ensures.stands
 
 pub returns-clause-lengths : goal.returns-clause-lengths
-returns-clause-lengths g c = on-ok c.clear_sizes.result
-    (λ is. ap lengths_of is
-    ∙ (lengths-emptied c.deref-4.result.now (map g.R.Region.seen c.replay_entries.new.regions)
-    ∙ (c.in_ok-replay_entries.ensures.lengths
-    ∙ (ap lengths_of c.in_ok-close_dead.ensures.ok
-    ∙ lengths-shut c.deref.result.now (map g.R.Region.seen c.args.regions.now)))))
-    c.clear_sizes.ensures.ok
+returns-clause-lengths g c =
+    c.clear_sizes.ensures.lengths
+    ∙ (c.replay_entries.ensures.lengths ∙ c.close_dead.ensures.lengths)
 
 pub returns-clause-cause : goal.returns-clause-cause
 returns-clause-cause g c =
