@@ -1,11 +1,8 @@
--- What a mount is to do, list by list, by the words of the store and its files.
-use Rattle.std.specs.Prelude.{ℕ, ◌/◌, ◌==◌, ◌&&◌, not, Bool, List, [], get_or, length, map, filter}
+-- The slots, blocks and records that hold something of no file.
+use Rattle.std.specs.Prelude.{ℕ, ◌/◌, ◌==◌, ◌&&◌, not, Bool, List, [], get_or, length, filter}
 use Rattle.std.specs.List.{list_any, range_with_len}
 use Rattle.cfs_home.specs.Disks.{File}
-use Rattle.cfs_replay.specs.declared.pending.Pending.{Pending}
 use Rattle.cfs_slot.specs.Words.{gate_of, is_live}
-use Rattle.cfs_survey.specs.declared.live_entry.LiveEntry.{LiveEntry}
-use Rattle.cfs_plan.specs.Files.{file_with, node_of}
 
 -- the gate is open, and the slot is no live entry of a file
 abbrev pub is_dead : List File → List ℕ → Bool
@@ -15,14 +12,6 @@ is_dead files words =
 abbrev pub dead_slots : List File → List (List ℕ) → List ℕ
 dead_slots files slots =
     filter (λ at. is_dead files (get_or slots at [])) (range_with_len 0 (length slots))
-
--- a live entry with the record of its file
-abbrev pub pending_of : List File → LiveEntry → Pending
-pending_of files entry =
-    record { node = node_of (file_with entry.ino files); ino = entry.ino; slot = entry.slot }
-
-abbrev pub pendings : List File → List LiveEntry → List Pending
-pendings files entries = map (pending_of files) entries
 
 -- the tag is not 0, and of no file
 abbrev pub is_stray : List File → ℕ → Bool

@@ -4,6 +4,7 @@ ghost use Rattle.cfs_home.specs.Disks.{File};
 ghost use Rattle.cfs_plan.specs.Files.{IsRecordMap};
 ghost use Rattle.cfs_plan.specs.Lists.{dead_slots, is_dead};
 
+use crate::lists::note_where;
 use cfs_file::NoMemory;
 use cfs_survey::HEAD_WORDS;
 use indexmap::IndexMap;
@@ -28,9 +29,7 @@ pub(crate) fn dead_slots(
 {
     let mut dead = Vec::new(alloc);
     for (at, words) in slots.iter().enumerate() {
-        if is_dead(records, words) {
-            dead.push(at)?;
-        }
+        note_where(&mut dead, at, is_dead(records, words))?;
     }
     Ok(dead)
 }

@@ -3,6 +3,7 @@
 
 mod dead;
 mod emptied;
+mod lists;
 mod mount;
 mod pendings;
 mod records;

@@ -2,7 +2,7 @@
 ghost use Rattle.std.specs.Prelude.{IfOk, List, ◌≡◌};
 ghost use Rattle.cfs_home.specs.Disks.{File};
 ghost use Rattle.cfs_plan.specs.Files.{IsRecordMap};
-ghost use Rattle.cfs_plan.specs.Lists.{pending_of, pendings};
+ghost use Rattle.cfs_plan.specs.Pendings.{pending_of, pendings};
 
 use cfs_file::NoMemory;
 use cfs_replay::Pending;
@@ -30,7 +30,7 @@ pub(crate) fn pendings_of(
     entries: &[LiveEntry],
 ) -> Result<Vec<Pending>, NoMemory>
     ensures { (files : List File) → IsRecordMap files records.now →
-        IfOk result (λ pendings. pendings.items ≡ pendings files entries.now) }
+        IfOk result (λ list. list.items ≡ pendings files entries.now) }
 {
     let mut pendings = Vec::with_capacity(alloc, entries.len())?;
     for entry in entries {

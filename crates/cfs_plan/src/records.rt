@@ -12,7 +12,8 @@ pub(crate) fn records_of(alloc: Global, nodes: &[Node]) -> Result<IndexMap<u64, 
     ensures { IfOk result (IsRecordMap (files_of nodes.now)) }
 {
     let mut records = IndexMap::with_capacity(alloc, nodes.len())?;
-    for node in nodes.iter().rev() {
+    for k in (0..nodes.len()).rev() {
+        let node = &nodes[k];
         if !node.kind.is_directory() {
             records.insert(node.ino, node.rec)?;
         }

@@ -4,6 +4,7 @@ ghost use Rattle.cfs_home.specs.Disks.{File};
 ghost use Rattle.cfs_plan.specs.Files.{IsRecordMap};
 ghost use Rattle.cfs_plan.specs.Lists.{is_stray, stray_blocks};
 
+use crate::lists::note_where;
 use cfs_file::NoMemory;
 use indexmap::IndexMap;
 use std::alloc::Global;
@@ -31,9 +32,7 @@ pub(crate) fn stray_blocks(
 {
     let mut stray = Vec::new(alloc);
     for (at, tag) in tags.iter().enumerate() {
-        if is_stray(records, *tag) {
-            stray.push(at)?;
-        }
+        note_where(&mut stray, at, is_stray(records, *tag))?;
     }
     Ok(stray)
 }
