@@ -12,8 +12,8 @@ use Rattle.cfs_block.specs.Devices.{DeviceImages, DeviceMoments, Devices}
 use Rattle.cfs_medium.specs.Depicts.{IsFor}
 use Rattle.cfs_home.specs.Disks.{AllStay, Disk, File}
 
--- Regions by device number: below 67 the front, from 67 on the size words of 256 records, from 323 on
--- the slots.
+-- Regions by device number: below 67 the front, from 67 on the size words of 256 records, from 323
+-- on the slots.
 
 abbrev pub size_in : List (List ℕ) → ℕ → ℕ
 size_in words node = if nat_lt node 256 then get_or (get_or words (67 + node) []) 0 0 else 0

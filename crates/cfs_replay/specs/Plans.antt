@@ -1,12 +1,12 @@
 -- What a mount is to do to a store, and what stands once it is done.
-use Rattle.std.specs.Prelude.{ℕ, ◌/◌, ◌≡◌, ◌⊎◌, List, [], map, get_or}
+use Rattle.std.specs.Prelude.{ℕ, ◌+◌, ◌/◌, ◌<◌, ◌≡◌, ◌⊎◌, List, [], length, map, get_or}
 use Rattle.std.specs.List.{Contains}
 use Rattle.cfs_pmem.specs.Images.{Seen, WordStep, words_of}
 use Rattle.cfs_block.specs.BlockImages.{BlockStep, content_of}
 use Rattle.cfs_slot.specs.Words.{gate_of}
 use Rattle.cfs_medium.specs.Depicts.{content_at}
 use Rattle.cfs_home.specs.Calls.{disk_of}
-use Rattle.cfs_home.specs.Disks.{Disk, File, IsNoNode, recovered_in, stored_in}
+use Rattle.cfs_home.specs.Disks.{Disk, File, IsNoNode, IsNoTag, recovered_in, stored_in}
 use Rattle.cfs_home.specs.Ends.{AreDrained, IsClosedOrLive}
 use Rattle.cfs_recover.specs.Begins.{Stands}
 use Rattle.cfs_recover.specs.Swept.{AreDead, AreNoNodes}
@@ -20,6 +20,15 @@ disk_in regions blocks =
     disk_of (record { words = map words_of regions; contents = map content_of blocks })
 
 -- ---- what is to be done
+
+-- Its places are those of devices: of slots among this many regions, of this many blocks, and of
+-- records.
+pub record IsWithin (plan : Plan) (regions blocks : ℕ) : Type 0 where
+  pub dead : (k : ℕ) → k < length plan.dead.items →
+      323 + get_or plan.dead.items k 0 < regions
+  pub untagged : (k : ℕ) → k < length plan.untagged.items →
+      get_or plan.untagged.items k 0 < blocks
+  pub emptied : (k : ℕ) → k < length plan.emptied.items → get_or plan.emptied.items k 0 < 256
 
 -- the record is that of a file
 abbrev pub IsNode : List File → ℕ → Type 0
@@ -45,6 +54,10 @@ pub record IsPlanFor (files : List File) (first : Disk) (plan : Plan) : Type 0 w
 
 -- ---- what stands then
 
+-- a block has the tag that it had, or none in place of one that was no file's
+abbrev pub IsTagKept : List File → ℕ → ℕ → Type 0
+IsTagKept files was now = (now ≡ was) ⊎ ((now ≡ 0) × IsNoTag files was)
+
 -- A mount that began on the disk `first` has come to its end. A crash leaves the disk that is read
 -- now and no other. Each file is stored whole there, as it was to be found at the start, with its
 -- blocks; no gate is open, and what is no file's has neither a size nor a block.
@@ -57,6 +70,6 @@ pub record IsBroughtHome (files : List File) (start first : Disk) (regions : Lis
   pub drained : AreDrained files now
   pub closed : (at : ℕ) → gate_of (get_or now.slots at []) ≡ 0
   pub tags : (at : ℕ) → IsTagOrFree files (content_at now.blocks at).tag
-  pub kept : (at : ℕ) → IsTagOrFree files (content_at first.blocks at).tag →
-      (content_at now.blocks at).tag ≡ (content_at first.blocks at).tag
+  pub kept : (at : ℕ) → IsTagKept files (content_at first.blocks at).tag
+      (content_at now.blocks at).tag
   pub sizes : (node : ℕ) → IsNoNode files node → now.sizes node ≡ 0
