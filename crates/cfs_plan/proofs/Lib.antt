@@ -5,3 +5,6 @@ pub mod Heads
 pub mod Passed
 pub mod Found
 pub mod Ordered
+pub mod Told
+pub mod Listed
+pub mod Plans

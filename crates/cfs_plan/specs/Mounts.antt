@@ -1,12 +1,12 @@
--- The plan of a mount, for each store that reads the words it was made of.
-use Rattle.std.specs.Prelude.{ℕ, ◌+◌, ◌<◌, ◌≡◌, List, length, All}
+-- What holds of each store whose devices read the words that a plan was made of.
+use Rattle.std.specs.Prelude.{List}
 use Rattle.cfs_pmem.specs.Images.{Seen, WordStep}
 use Rattle.cfs_block.specs.BlockImages.{BlockStep}
-use Rattle.cfs_replay.specs.declared.plan.Plan.{Plan}
+use Rattle.cfs_survey.specs.Surveys.{Words}
+use Rattle.cfs_plan.specs.Readings.{AreReadOf}
 
--- The places are those of slots, of blocks and of records that the store has.
-pub record IsWithin (regions : List (Seen WordStep)) (blocks : List (Seen BlockStep))
-    (plan : Plan) : Type 0 where
-  pub dead : All (λ at. 323 + at < length regions) plan.dead.items
-  pub untagged : All (λ at. at < length blocks) plan.untagged.items
-  pub emptied : All (λ node. node < 256) plan.emptied.items
+-- P holds of all regions and blocks that read these words
+abbrev pub OnDevicesOf : Words → (List (Seen WordStep) → List (Seen BlockStep) → Type 0) → Type 0
+OnDevicesOf words P =
+    (regions : List (Seen WordStep)) (blocks : List (Seen BlockStep)) →
+    AreReadOf words regions blocks → P regions blocks
