@@ -75,8 +75,7 @@ finds-blocks offset nodes tags found ino sound file map block at low =
     let tag : ℕ = tag_of ino block in
     let own : tag / 65536 ≡ ino = omega (arith, low) in
     let of_file : is_file nodes (tag / 65536) ≡ true = ap (is_file nodes) own ∙ file in
-    let looks : get nat_eq found tag ≡ block_of tags (length tags) tag = map tag of_file in
-    (
+    let looks : get nat_eq found tag ≡ block_of tags (length tags) tag = map tag of_file in (
       λ is. (block-has tags (length tags) tag at (sym looks ∙ is)).1,
       λ has. elim (cases_lt at (length tags)) [
         | inl below ↦

@@ -8,3 +8,4 @@ pub mod Ordered
 pub mod Told
 pub mod Listed
 pub mod Plans
+pub mod Ready

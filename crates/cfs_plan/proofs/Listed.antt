@@ -158,7 +158,7 @@ is-once words nodes next regions blocks reads file has first second entry other 
 
 -- ---- each listed entry is one
 
-payload-few : (words : List ℕ) (tails : List (List ℕ)) →
+pub payload-few : (words : List ℕ) (tails : List (List ℕ)) →
     length (payload_of words tails) ≤ count_of words
 payload-few words tails =
     omega (arith, length-take (count_of words) (flat_map area_of (words ∷ tails)))
@@ -201,11 +201,10 @@ is-mapped-here words nodes next regions blocks reads at live ino own =
         omega (arith, low, high, few, offset, count) in
         let mapped = passed.blocks.each (λ k. other (sym (kind-same head here same) ∙ k))
         (position / 4096) from below in
-        let found = mapped-at words.tags (tag_of (ino_of head) (position / 4096)) mapped in
-        (
+        let found = mapped-at words.tags (tag_of (ino_of head) (position / 4096)) mapped in (
           found.0,
           sym (tag-read words regions blocks reads.read found.0) ∙ found.1.1
-          ∙ ap (λ n. tag_of n (position / 4096)) own,
+              ∙ ap (λ n. tag_of n (position / 4096)) own,
         )
 
     split : (b : Bool) → (kind_of here == 2) ≡ b →
@@ -271,8 +270,7 @@ are-all words nodes next regions blocks reads file at live among here =
       gate = gate_of (get_or words.slots at []);
       slot = at;
     } in
-    let own = live-open file.ino (get_or (slots_in regions) at []) stands.is in
-    (
+    let own = live-open file.ino (get_or (slots_in regions) at []) stands.is in (
       pending_of files entry,
       (
         contains-had (pendings files listed) (pending_of files entry)

@@ -85,9 +85,9 @@ pub record ComesBefore (a b : LiveEntry) : Type 0 where
 before-is : (a b : LiveEntry) → is_before a b ≡ true → ComesBefore a b
 before-is a b is = elim (cases_lt a.ino b.ino) [
   | inl low ↦ record {
-      least = omega (arith, low);
-      gates = λ same. absurd (omega (arith, low, same));
-    }
+    least = omega (arith, low);
+    gates = λ same. absurd (omega (arith, low, same));
+  }
   | inr high ↦
       let first : nat_lt a.ino b.ino ≡ false = not-less a.ino b.ino high in
       let rest : ((a.ino == b.ino) && nat_lt a.gate b.gate) ≡ true =
@@ -165,8 +165,7 @@ put-strict entry (first ∷ rest) strict apart =
       deeper,
     )
     split false is deeper =
-        let here = before-not first entry is (apart first (inl refl)) in
-        (
+        let here = before-not first entry is (apart first (inl refl)) in (
           λ y h. elim h [
             | inl same ↦ subst (ComesBefore entry) (sym same) here
             | inr later ↦ behind entry first y here (strict.0 y later)
@@ -245,8 +244,7 @@ live-told nodes slots entry h =
     let from = filter_map-has (entry_in nodes slots) (range_with_len 0 (length slots)) entry
     (order-has (live_entries nodes slots) entry h) in
     let told = entry-told nodes slots from.0 entry from.1.1 in
-    let inside = range-has 0 (length slots) from.0 from.1.0 in
-    (
+    let inside = range-has 0 (length slots) from.0 from.1.0 in (
       omega (arith, told.slot, inside.1),
       subst (λ at. IsTold nodes slots at entry) (sym told.slot) told,
     )

@@ -2,7 +2,7 @@
 use Rattle.std.proofs.Common.{◌≡◌, ◌≢◌, ◌⊎◌, ◌∙◌, ℕ, suc, zero, ◌+◌, ◌-◌, ◌*◌, ◌<◌, ◌≤◌, Bool}
 use Rattle.std.proofs.Common.{true, false, Option, Some, None, List, [], ◌∷◌, get_or, length, map}
 use Rattle.std.proofs.Common.{arith, refl, sym, ap, ap₂, subst, if◌then◌else◌, inl, inr, eq-eqb}
-use Rattle.std.specs.Prelude.{All, ◌==◌, ◌&&◌, ◌/◌, not, nat_lt, filter}
+use Rattle.std.specs.Prelude.{◌==◌, ◌&&◌, ◌/◌, not, nat_lt, filter, IfOk, Result, Ok, Err}
 use Rattle.std.specs.List.{Contains, list_any, range_with_len}
 use Rattle.std.proofs.Math.ListN.{get_or-map}
 use Rattle.std.proofs.lemmas.Bool.{cases_Bool, cases_lt, eqb-true, le-ltb, lt-ltb}
@@ -24,6 +24,7 @@ use Rattle.cfs_replay.specs.Entries.{AreInOrder}
 use Rattle.cfs_replay.specs.Plans.{IsNode, IsPlanFor, IsTagOrFree, IsWithin, disk_in}
 use Rattle.cfs_replay.specs.Reading.{slots_in, words_at}
 use Rattle.cfs_slot.specs.Words.{gate_of, is_live}
+use Rattle.cfs_survey.specs.declared.live_entry.LiveEntry.{LiveEntry}
 use Rattle.cfs_survey.specs.Live.{in_order, live_entries}
 use Rattle.cfs_survey.specs.Surveys.{Words}
 use Rattle.cfs_survey.proofs.RootLemmas.{unequal}
@@ -119,13 +120,13 @@ open-slots words files regions blocks read at =
       | inl fine ↦ inl (elim fine [
         | inl closed ↦ inl (sym (gate-same head here (heads-read words regions blocks read at)) ∙ closed)
         | inr live ↦ inr (
-            live.0,
-            (
-              contains-had files live.0 live.1.0,
-              sym (live-same live.0.ino head here (heads-read words regions blocks read at))
-                  ∙ live.1.1,
-            ),
-          )
+          live.0,
+          (
+            contains-had files live.0 live.1.0,
+            sym (live-same live.0.ino head here (heads-read words regions blocks read at))
+                ∙ live.1.1,
+          ),
+        )
       ])
       | inr dead ↦ inr (passing-has (λ at. is_dead files (get_or words.slots at []))
           (length words.slots) at (inside dead.0) dead.1)
@@ -211,7 +212,7 @@ are-no-nodes words files k below file among same =
     let some : (file.node == node) ≡ true = eq-eqb file.node node same in
     absurd (cc)
 
-size-at : (regions : List (Seen WordStep)) (node : ℕ) → node < 256 →
+pub size-at : (regions : List (Seen WordStep)) (node : ℕ) → node < 256 →
     size_in (map words_of regions) node ≡ get_or (words_at regions (67 + node)) 0 0
 size-at regions node low =
     ap (λ b. if b then get_or (get_or (map words_of regions) (67 + node) []) 0 0 else 0)
@@ -253,6 +254,24 @@ pub record IsPlanOf (words : Words) (nodes : List Node) (plan : Plan) : Type 0 w
       ≡ pendings (files_of nodes) (in_order (live_entries nodes words.slots))
   pub untagged : plan.untagged.items ≡ stray_blocks (files_of nodes) words.tags
   pub emptied : plan.emptied.items ≡ leftover_records (files_of nodes) words.sizes
+
+-- what such a plan has, where one was made
+pub made-ok : {E : Type 0} (words : Words) (nodes : List Node) (entries : List LiveEntry)
+    (result : Result Plan E) (Q : Plan → Type 0) →
+    IfOk result (λ plan. plan.dead.items ≡ dead_slots (files_of nodes) words.slots) →
+    IfOk result (λ plan. plan.entries.items ≡ pendings (files_of nodes) entries) →
+    IfOk result (λ plan. plan.untagged.items ≡ stray_blocks (files_of nodes) words.tags) →
+    IfOk result (λ plan. plan.emptied.items ≡ leftover_records (files_of nodes) words.sizes) →
+    entries ≡ in_order (live_entries nodes words.slots) →
+    ((plan : Plan) → IsPlanOf words nodes plan → Q plan) → IfOk result Q
+made-ok words nodes entries (Ok plan) Q dead listed untagged emptied told goes =
+    goes plan (record {
+      dead = dead;
+      entries = listed ∙ ap (pendings (files_of nodes)) told;
+      untagged = untagged;
+      emptied = emptied;
+    })
+made-ok words nodes entries (Err error) Q dead listed untagged emptied told goes = tt
 
 pub is-plan-for : (words : Words) (nodes : List Node) (next : ℕ) (regions : List (Seen WordStep))
     (blocks : List (Seen BlockStep)) (plan : Plan) → Reads words nodes next regions blocks →

@@ -35,7 +35,7 @@ sound-words words sound =
     let first = sound_parts (namespace_checks words) (sizes ++ (tags ++ slots)) sound in
     let second = sound_parts sizes (tags ++ slots) first.1 in
     let third = sound_parts tags slots second.1 in
-    record { sizes = second.0; tags = third.0; slots = third.1; }
+    record { sizes = second.0; tags = third.0; slots = third.1 }
 
 pub are-sound : (words : Words) (survey : Survey) → damage_of (survey_checks words) ≡ None →
     IsSurveyOf words survey → AreSound words survey.tree.nodes.items

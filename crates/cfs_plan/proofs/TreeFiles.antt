@@ -90,8 +90,7 @@ is-file nodes ino is = split (node_of nodes ino) refl is
     split None found is = absurd (cc)
     split (Some node) found is =
         let among = find-has (λ n. n.ino == ino) nodes node found in
-        let plain : is_directory node.kind ≡ false = flip (is_directory node.kind) is in
-        (
+        let plain : is_directory node.kind ≡ false = flip (is_directory node.kind) is in (
           record { node = node.rec; ino = node.ino },
           (node-file nodes node among.0 plain, eqb-true node.ino ino among.1),
         )
@@ -158,9 +157,9 @@ are-files nodes next tree file other among others =
           let inos = b.ino ∙ ap (λ (x : Node). x.ino) one ∙ sym a.ino in
           inl (same-file other file recs inos)
       | inr differs ↦ inr (record {
-          nodes = λ same. differs (sym b.rec ∙ same ∙ a.rec);
-          inodes = λ same. differs (ap (λ (x : Node). x.rec) (one_number m n a b same));
-        })
+        nodes = λ same. differs (sym b.rec ∙ same ∙ a.rec);
+        inodes = λ same. differs (ap (λ (x : Node). x.rec) (one_number m n a b same));
+      })
     ]
       where
         one_number : (m n : Node) → IsNodeOf nodes file m → IsNodeOf nodes other n →

@@ -14,6 +14,11 @@ use Rattle.cfs_survey.specs.Live.{in_order, live_entries}
 use Rattle.cfs_survey.specs.Mapped.{IsBlockMap}
 use Rattle.cfs_survey.specs.SoFar.{found_tree}
 use Rattle.cfs_survey.specs.Surveys.{Words, recovered_tree, through_of}
+use Rattle.cfs_plan.specs.Files.{files_of}
+
+-- the files that it tells
+abbrev pub files_in : Survey → List File
+files_in survey = files_of survey.tree.nodes.items
 
 -- the survey told all this of the words
 pub record IsSurveyOf (words : Words) (survey : Survey) : Type 0 where
