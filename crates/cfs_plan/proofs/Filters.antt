@@ -1,11 +1,11 @@
 -- What a map of records tells of the files, and lists that are filtered number by number.
-use Rattle.std.proofs.Common.{◌≡◌, ◌≢◌, ◌∙◌, ℕ, zero, suc, ◌+◌, ◌-◌, ◌<◌, ◌≤◌, Bool, true, false}
+use Rattle.std.proofs.Common.{◌≡◌, ◌≢◌, ◌∙◌, ℕ, suc, ◌+◌, ◌-◌, ◌<◌, ◌≤◌, Bool, true, false}
 use Rattle.std.proofs.Common.{Option, Some, None, List, [], ◌∷◌, ◌++◌, cond, drop, take, get_or}
-use Rattle.std.proofs.Common.{set, length, map, arith, refl, sym, ap, ap₂, subst, inl, inr, eq-eqb}
-use Rattle.std.specs.Prelude.{◌==◌, ◌&&◌, ◌||◌, ◌/◌, not, filter, find, is_some, nat_eq}
+use Rattle.std.proofs.Common.{set, length, arith, refl, sym, ap, ap₂, subst, inl, inr, eq-eqb}
+use Rattle.std.specs.Prelude.{◌==◌, ◌&&◌, ◌||◌, ◌/◌, not, filter, is_some, nat_eq}
 use Rattle.std.specs.Prelude.{if◌then◌else◌}
 use Rattle.std.specs.HashMap.{get}
-use Rattle.std.specs.List.{cons_option, filter_map, list_any, range_with_len}
+use Rattle.std.specs.List.{cons_option, list_any, range_with_len}
 use Rattle.std.specs.Option.{option_map}
 use Rattle.std.proofs.Math.Seq.{drop-cons}
 use Rattle.std.proofs.lemmas.Bool.{cases_Bool, eqb-true}
@@ -122,7 +122,8 @@ stray-tag files records tag has some =
 -- ---- maps, flags and lists, one by one
 
 files-drop : (nodes : List Node) (k : ℕ) (d : Node) → k < length nodes →
-    files_of (drop k nodes) ≡ cons_option (file_in (get_or nodes k d)) (files_of (drop (k + 1) nodes))
+    files_of (drop k nodes)
+    ≡ cons_option (file_in (get_or nodes k d)) (files_of (drop (k + 1) nodes))
 files-drop nodes k d below =
     let next : suc k ≡ k + 1 = omega arith in
     ap files_of (drop-cons nodes k d below)

@@ -1,7 +1,7 @@
 -- Blocks that are found by their tags: no tag of a file stands twice.
-use Rattle.std.proofs.Common.{◌≡◌, ◌≢◌, ◌∙◌, ℕ, suc, zero, ◌+◌, ◌-◌, ◌*◌, ◌<◌, ◌≤◌, Bool, true, false}
+use Rattle.std.proofs.Common.{◌≡◌, ◌∙◌, ℕ, ◌<◌, Bool, true}
 use Rattle.std.proofs.Common.{Option, Some, None, List, [], ◌∷◌, get_or, length, arith}
-use Rattle.std.proofs.Common.{refl, sym, ap, subst, if◌then◌else◌, eq-eqb, inl, inr, cond}
+use Rattle.std.proofs.Common.{refl, sym, ap, if◌then◌else◌, eq-eqb, inl, inr, cond}
 use Rattle.std.specs.Prelude.{◌==◌, ◌/◌, find, is_some, nat_eq}
 use Rattle.std.specs.HashMap.{get}
 use Rattle.std.specs.List.{range_with_len}
@@ -10,11 +10,9 @@ use Rattle.std.specs.Option.{option_or}
 use Rattle.std.proofs.lemmas.List.{get_or_past}
 use Rattle.std.proofs.lemmas.List.Folds.{find-append}
 use Rattle.cfs_dir.specs.declared.node.Node.{Node}
-use Rattle.cfs_file.specs.declared.sizes.TheConstants.{FILE_BLOCKS}
 use Rattle.cfs_image.specs.Checks.{damage_of}
-use Rattle.cfs_medium.proofs.Has.{Has}
 use Rattle.cfs_medium.specs.Store.{tag_of}
-use Rattle.cfs_replay.specs.Pieces.{FindsBlocks, found_at}
+use Rattle.cfs_replay.specs.Pieces.{FindsBlocks}
 use Rattle.cfs_survey.specs.Mapped.{BlockMap, IsBlockMap}
 use Rattle.cfs_survey.specs.Surveys.{is_mapped}
 use Rattle.cfs_survey.specs.Tags.{block_of, is_file, own_checks, tag_checks, tags_checks}

@@ -1,12 +1,11 @@
 -- Slots and tags of devices, by the words that a survey saw of them.
-use Rattle.std.proofs.Common.{◌≡◌, ◌∙◌, ℕ, ◌+◌, ◌-◌, ◌*◌, ◌<◌, ◌≤◌, List, [], get_or, length}
-use Rattle.std.proofs.Common.{map, take, drop, arith, refl, sym, ap, ap₂, inl, inr, if◌then◌else◌}
+use Rattle.std.proofs.Common.{◌≡◌, ◌∙◌, ℕ, ◌+◌, ◌-◌, ◌<◌, List, [], get_or, length}
+use Rattle.std.proofs.Common.{map, take, arith, sym, ap, ap₂, if◌then◌else◌}
 use Rattle.std.specs.Prelude.{◌==◌, ◌&&◌, ◌%◌, ◌/◌, ◌^◌, not, Bool}
 use Rattle.std.proofs.Math.ListN.{get_or-map}
 use Rattle.std.proofs.lemmas.List.{get_or-drop, get_or-take, length-drop, length-map}
 use Rattle.cfs_block.specs.BlockImages.{BlockStep, Content, content_of}
 use Rattle.cfs_pmem.specs.Images.{Seen, WordStep, words_of}
-use Rattle.cfs_pmem.specs.Objects.{seen_at}
 use Rattle.cfs_slot.specs.Words.{count_of, gate_of, ino_of, is_live, kind_of, mark_of, offset_of}
 use Rattle.cfs_slot.specs.Words.{tails_of}
 use Rattle.cfs_medium.specs.Depicts.{content_at}

@@ -1,12 +1,12 @@
 -- The entries of a plan are all live entries of the files, in the order of a replay.
-use Rattle.std.proofs.Common.{◌≡◌, ◌≢◌, ◌⊎◌, ◌∙◌, ℕ, suc, zero, ◌+◌, ◌-◌, ◌*◌, ◌<◌, ◌≤◌, Bool}
-use Rattle.std.proofs.Common.{true, false, Option, Some, None, List, [], ◌∷◌, get_or, length, map}
-use Rattle.std.proofs.Common.{arith, refl, sym, ap, ap₂, subst, if◌then◌else◌, inl, inr, eq-eqb, take}
-use Rattle.std.specs.Prelude.{◌==◌, ◌&&◌, ◌/◌, not}
-use Rattle.std.specs.List.{Contains, flat_map}
+use Rattle.std.proofs.Common.{◌≡◌, ◌≢◌, ◌∙◌, ℕ, ◌+◌, ◌<◌, ◌≤◌, Bool}
+use Rattle.std.proofs.Common.{true, false, Some, None, List, [], ◌∷◌, get_or, length, map}
+use Rattle.std.proofs.Common.{arith, refl, sym, ap, ap₂, subst, if◌then◌else◌, inl, inr, eq-eqb}
+use Rattle.std.specs.Prelude.{◌==◌, ◌&&◌, ◌/◌}
+use Rattle.std.specs.List.{flat_map}
 use Rattle.std.proofs.lemmas.Bool.{cases_lt, eqb-true}
 use Rattle.std.proofs.lemmas.List.{length-take}
-use Rattle.cfs_block.specs.BlockImages.{BlockStep, Content, content_of}
+use Rattle.cfs_block.specs.BlockImages.{BlockStep, content_of}
 use Rattle.cfs_core.proofs.Legal.{both}
 use Rattle.cfs_core.proofs.Order.{same_or_not}
 use Rattle.cfs_dir.specs.declared.node.Node.{Node}
@@ -14,27 +14,25 @@ use Rattle.cfs_dir.specs.Tree.{IsTree}
 use Rattle.cfs_file.specs.declared.request.Request.{Request}
 use Rattle.cfs_file.specs.declared.request.Request.TheVariants as requests
 use Rattle.cfs_file.specs.declared.sizes.TheConstants.{BLOCK_LEN}
-use Rattle.cfs_file.specs.Span.{Touches}
 use Rattle.cfs_home.specs.Disks.{File, IsMapped, IsOnce}
 use Rattle.cfs_image.specs.Layout.{slot_at as first_slot_at}
-use Rattle.cfs_medium.specs.Depicts.{IsFor, content_at}
+use Rattle.cfs_medium.specs.Depicts.{IsFor}
 use Rattle.cfs_medium.specs.Store.{entry_at}
 use Rattle.cfs_medium.proofs.Has.{Has, contains-had, has-contained}
 use Rattle.cfs_pmem.specs.Images.{Seen, WordStep}
 use Rattle.cfs_replay.specs.declared.pending.Pending.{Pending}
-use Rattle.cfs_replay.specs.Entries.{AreInOrder, file_of}
+use Rattle.cfs_replay.specs.Entries.{AreInOrder}
 use Rattle.cfs_replay.specs.Listed.{AreAll, AreByGate, AreEntries, IsEntry, gate_in}
 use Rattle.cfs_replay.specs.Reading.{slots_in}
 use Rattle.cfs_replay.proofs.Orders.{listed-in-order}
 use Rattle.cfs_slot.specs.Tails.{tails_at}
-use Rattle.cfs_slot.specs.Words.{area_of, count_of, gate_of, ino_of, is_live, kind_of, live_entry}
+use Rattle.cfs_slot.specs.Words.{area_of, count_of, gate_of, ino_of, is_live, kind_of}
 use Rattle.cfs_slot.specs.Words.{offset_of, payload_of, request_of}
 use Rattle.cfs_survey.specs.declared.live_entry.LiveEntry.{LiveEntry}
-use Rattle.cfs_survey.specs.Live.{entry_in, in_order, live_entries}
+use Rattle.cfs_survey.specs.Live.{in_order, live_entries}
 use Rattle.cfs_survey.specs.Slots.{blocks_touched, first_block, is_live_entry, tag_of}
 use Rattle.cfs_survey.specs.Surveys.{Words, is_mapped}
 use Rattle.cfs_survey.specs.Tags.{is_file}
-use Rattle.cfs_survey.proofs.RootLemmas.{unequal}
 use Rattle.cfs_plan.specs.Files.{file_with, files_of, node_of}
 use Rattle.cfs_plan.specs.Pendings.{pending_of, pendings}
 use Rattle.cfs_plan.specs.Readings.{AreReadOf}
@@ -42,7 +40,7 @@ use Rattle.cfs_plan.proofs.Found.{mapped-at}
 use Rattle.cfs_plan.proofs.Heads.{AreHeadOf, count-same, gate-same, heads-read, ino-same, kind-same}
 use Rattle.cfs_plan.proofs.Heads.{live-same, offset-same, tag-read}
 use Rattle.cfs_plan.proofs.Members.{has-map, map-has}
-use Rattle.cfs_plan.proofs.Ordered.{AreApart, ComesBefore, IsStrict, IsTold, entry-told, live-among}
+use Rattle.cfs_plan.proofs.Ordered.{AreApart, IsStrict, entry-told, live-among}
 use Rattle.cfs_plan.proofs.Ordered.{live-strict, live-told}
 use Rattle.cfs_plan.proofs.Passed.{Passes, live-inside, passes}
 use Rattle.cfs_plan.proofs.Told.{AreSound}
@@ -212,7 +210,8 @@ is-mapped-here words nodes next regions blocks reads at live ino own =
         else requests.Write (offset_of here) (payload_of here tails)) (map content_of blocks)
     split true is = tt
     split false is = λ position touched.
-        block-there (λ k. (let clash : (kind_of here == 2) ≡ true = eq-eqb (kind_of here) 2 k in cc))
+        block-there
+        (λ k. (let clash : (kind_of here == 2) ≡ true = eq-eqb (kind_of here) 2 k in cc))
         position touched.0 touched.1
 
 entry-is : (words : Words) (nodes : List Node) (next : ℕ) (regions : List (Seen WordStep))

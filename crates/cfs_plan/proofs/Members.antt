@@ -1,7 +1,7 @@
 -- Members of lists that are made of others.
 use Rattle.std.proofs.Common.{◌≡◌, ◌⊎◌, inl, inr, ℕ, suc, zero, ◌+◌, ◌<◌, ◌≤◌, Bool, true, false}
 use Rattle.std.proofs.Common.{Option, Some, None, List, [], ◌∷◌, map, cond, arith, refl, sym, ap}
-use Rattle.std.proofs.Common.{subst, ◌∙◌}
+use Rattle.std.proofs.Common.{◌∙◌}
 use Rattle.std.specs.Prelude.{filter, find, ◌||◌}
 use Rattle.std.specs.List.{cons_option, filter_map, list_any, range_with_len}
 use Rattle.std.proofs.lemmas.Bool.{cases_lt}
@@ -161,7 +161,8 @@ has-find {X} p (y ∷ ys) x h is = split (p y) refl h (λ more. has-find p ys x 
 pub find-none : {X : Type 0} (p : X → Bool) (xs : List X) (x : X) → find p xs ≡ None →
     Has xs x → p x ≡ false
 find-none p [] x none h = absurd h
-find-none {X} p (y ∷ ys) x none h = split (p y) refl none h (λ none more. find-none p ys x none more)
+find-none {X} p (y ∷ ys) x none h =
+    split (p y) refl none h (λ none more. find-none p ys x none more)
   where
     split : (b : Bool) → p y ≡ b → cond b (Some y) (find p ys) ≡ None → Has (y ∷ ys) x →
         (find p ys ≡ None → Has ys x → p x ≡ false) → p x ≡ false

@@ -1,6 +1,7 @@
 -- The live entries of a survey are in strict order where no two have one inode number and gate.
 use Rattle.std.proofs.Common.{◌≡◌, ◌≢◌, ◌⊎◌, ◌∙◌, ℕ, suc, zero, ◌+◌, ◌<◌, ◌≤◌, Bool, true, false}
-use Rattle.std.proofs.Common.{Option, Some, None, List, [], ◌∷◌, get_or, length, arith, refl, sym, ap, ap₂}
+use Rattle.std.proofs.Common.{Option, Some, None, List, [], ◌∷◌, get_or, length, arith, refl, sym}
+use Rattle.std.proofs.Common.{ap, ap₂}
 use Rattle.std.proofs.Common.{subst, if◌then◌else◌, inl, inr, eq-eqb}
 use Rattle.std.specs.Prelude.{◌==◌, ◌&&◌, ◌||◌, nat_lt}
 use Rattle.std.specs.List.{cons_option, filter_map, range_with_len}
@@ -14,7 +15,6 @@ use Rattle.cfs_slot.specs.Words.{gate_of, ino_of}
 use Rattle.cfs_survey.specs.declared.live_entry.LiveEntry.{LiveEntry}
 use Rattle.cfs_survey.specs.Live.{entry_in, in_order, is_before, live_entries, put_live}
 use Rattle.cfs_survey.specs.Slots.{is_live_entry}
-use Rattle.cfs_survey.proofs.RootLemmas.{unequal}
 use Rattle.cfs_plan.proofs.Members.{filter_map-has, has-filter_map, has-range, range-has}
 use Rattle.cfs_plan.proofs.Passed.{live-inside}
 

@@ -1,8 +1,9 @@
 -- What the checks of a survey tell of a live entry.
 use Rattle.std.proofs.Common.{◌≡◌, ◌≢◌, ◌∙◌, ℕ, ◌+◌, ◌-◌, ◌*◌, ◌<◌, ◌≤◌, Bool, true, false}
-use Rattle.std.proofs.Common.{Option, Some, None, List, [], ◌∷◌, ◌++◌, get_or, length, take, arith}
-use Rattle.std.proofs.Common.{refl, sym, ap, ap₂, subst, if◌then◌else◌, eq-eqb, suc, zero, cond, inl, inr}
-use Rattle.std.specs.Prelude.{◌==◌, ◌&&◌, ◌/◌, ◌%◌, not, nat_le, nat_lt, is_none, min, position}
+use Rattle.std.proofs.Common.{Some, None, List, [], ◌∷◌, ◌++◌, get_or, length, take, arith}
+use Rattle.std.proofs.Common.{refl, sym, ap, ap₂, if◌then◌else◌, eq-eqb, suc, zero, cond}
+use Rattle.std.proofs.Common.{inl, inr}
+use Rattle.std.specs.Prelude.{◌==◌, ◌&&◌, not, nat_lt, is_none, min, position}
 use Rattle.std.specs.List.{flat_map, position_or_len}
 use Rattle.std.proofs.lemmas.Bool.{cases_lt, eqb-true, leb-true, ltb-false}
 use Rattle.std.proofs.lemmas.List.{get_or-take, get_or_past, length-take}
@@ -17,9 +18,9 @@ use Rattle.cfs_survey.specs.Slots.{are_tails, block_checks, blocks_touched, end_
 use Rattle.cfs_survey.specs.Slots.{entry_checks, first_block, is_entry, is_live_entry, kind_checks}
 use Rattle.cfs_survey.specs.Slots.{length_checks, long_checks, open_checks, request_checks}
 use Rattle.cfs_survey.specs.Slots.{set_checks, slot_at, slot_checks, slots_checks, tag_of}
-use Rattle.cfs_survey.specs.Slots.{tails_due, touched_checks, truncate_checks, twin_check, twin_slot}
-use Rattle.cfs_survey.specs.Slots.{device_in, lower_in_queue, owner_of, queue_from, tail_checks, write_checks}
-use Rattle.cfs_survey.specs.Tags.{is_file}
+use Rattle.cfs_survey.specs.Slots.{tails_due, touched_checks, truncate_checks, twin_check}
+use Rattle.cfs_survey.specs.Slots.{device_in, lower_in_queue, owner_of, queue_from, tail_checks}
+use Rattle.cfs_survey.specs.Slots.{write_checks}
 use Rattle.cfs_survey.proofs.FirstFaults.{holds_at, passed, sound_parts}
 use Rattle.cfs_survey.proofs.RootLemmas.{unequal}
 
@@ -147,7 +148,9 @@ fails-below p [] long k below = absurd (omega (arith, below))
 fails-below p (x ∷ xs) long k below = split (p x) refl (fails-below p xs) long k below
   where
     split : (b : Bool) → p x ≡ b →
-        (length xs ≤ position_or_len p xs → (k : ℕ) → k < length xs → p (get_or xs k []) ≡ false) → suc (length xs) ≤ cond (not b) (1 + position_or_len p xs) 0 →
+        (length xs ≤ position_or_len p xs → (k : ℕ) → k < length xs →
+        p (get_or xs k []) ≡ false) →
+        suc (length xs) ≤ cond (not b) (1 + position_or_len p xs) 0 →
         (k : ℕ) → k < suc (length xs) → p (get_or (x ∷ xs) k []) ≡ false
     split true is deeper long k below = absurd (omega (arith, long))
     split false is deeper long zero below = is

@@ -1,17 +1,16 @@
 -- The lists of a plan are what a mount of the store is to do.
-use Rattle.std.proofs.Common.{◌≡◌, ◌≢◌, ◌⊎◌, ◌∙◌, ℕ, suc, zero, ◌+◌, ◌-◌, ◌*◌, ◌<◌, ◌≤◌, Bool}
-use Rattle.std.proofs.Common.{true, false, Option, Some, None, List, [], ◌∷◌, get_or, length, map}
+use Rattle.std.proofs.Common.{◌≡◌, ◌≢◌, ◌⊎◌, ◌∙◌, ℕ, ◌+◌, ◌<◌, Bool}
+use Rattle.std.proofs.Common.{true, false, List, [], get_or, length, map}
 use Rattle.std.proofs.Common.{arith, refl, sym, ap, ap₂, subst, if◌then◌else◌, inl, inr, eq-eqb}
-use Rattle.std.specs.Prelude.{◌==◌, ◌&&◌, ◌/◌, not, nat_lt, filter, IfOk, Result, Ok, Err}
+use Rattle.std.specs.Prelude.{◌==◌, ◌&&◌, ◌/◌, not, filter, IfOk, Result, Ok, Err}
 use Rattle.std.specs.List.{Contains, list_any, range_with_len}
 use Rattle.std.proofs.Math.ListN.{get_or-map}
 use Rattle.std.proofs.lemmas.Bool.{cases_Bool, cases_lt, eqb-true, le-ltb, lt-ltb}
 use Rattle.std.proofs.lemmas.List.{get_or_past}
 use Rattle.std.proofs.lemmas.List.Elements.{Contains-get_or}
-use Rattle.cfs_block.specs.BlockImages.{BlockStep, Content, content_of}
+use Rattle.cfs_block.specs.BlockImages.{BlockStep, content_of}
 use Rattle.cfs_core.proofs.Order.{same_or_not}
 use Rattle.cfs_dir.specs.declared.node.Node.{Node}
-use Rattle.cfs_file.specs.declared.sizes.TheConstants.{FILE_BLOCKS}
 use Rattle.cfs_home.specs.Calls.{size_in}
 use Rattle.cfs_home.specs.Disks.{File, IsDead, IsNoNode, IsNoTag}
 use Rattle.cfs_home.specs.Ends.{IsClosedOrLive}
@@ -57,7 +56,8 @@ passing-at p n k below =
 passing-has : (p : ℕ → Bool) (n at : ℕ) → at < n → p at ≡ true → Contains (Passing p n) at
 passing-has p n at below is =
     contains-had (Passing p n) at
-    (has-filter p (range_with_len 0 n) at (has-range 0 n at (omega arith) (omega (arith, below))) is)
+    (has-filter p (range_with_len 0 n) at
+    (has-range 0 n at (omega arith) (omega (arith, below))) is)
 
 -- ---- tests
 
@@ -118,7 +118,8 @@ open-slots : (words : Words) (files : List File) (regions : List (Seen WordStep)
 open-slots words files regions blocks read at =
     elim (slot-cases files head) [
       | inl fine ↦ inl (elim fine [
-        | inl closed ↦ inl (sym (gate-same head here (heads-read words regions blocks read at)) ∙ closed)
+        | inl closed ↦
+            inl (sym (gate-same head here (heads-read words regions blocks read at)) ∙ closed)
         | inr live ↦ inr (
           live.0,
           (
@@ -149,7 +150,8 @@ open-slots words files regions blocks read at =
 are-no-tags : (words : Words) (files : List File) (regions : List (Seen WordStep))
     (blocks : List (Seen BlockStep)) → AreReadOf words regions blocks → (k : ℕ) →
     k < length (stray_blocks files words.tags) →
-    IsNoTag files (content_at (map content_of blocks) (get_or (stray_blocks files words.tags) k 0)).tag
+    IsNoTag files
+    (content_at (map content_of blocks) (get_or (stray_blocks files words.tags) k 0)).tag
 are-no-tags words files regions blocks read k below file among block low same =
     let at : ℕ = get_or (stray_blocks files words.tags) k 0 in
     let tag : ℕ = get_or words.tags at 0 in
@@ -323,6 +325,7 @@ is-within words nodes regions blocks plan read many is =
       emptied = subst (λ places. (k : ℕ) → k < length places → get_or places k 0 < 256)
           (sym is.emptied)
           (λ k below.
-          (let inside = (passing-at (is_leftover files words.sizes) (length words.sizes) k below).0 in
+          (let inside =
+          (passing-at (is_leftover files words.sizes) (length words.sizes) k below).0 in
           omega (arith, inside, many)));
     }

@@ -1,26 +1,25 @@
 -- The entries of a plan may be replayed, and its files may be mounted.
-use Rattle.std.proofs.Common.{◌≡◌, ◌≢◌, ◌∙◌, ℕ, ◌+◌, ◌-◌, ◌*◌, ◌<◌, ◌≤◌, Bool, true, false}
-use Rattle.std.proofs.Common.{Some, List, [], ◌∷◌, get_or, length, map, arith, refl, sym, ap, subst}
+use Rattle.std.proofs.Common.{◌≡◌, ◌≢◌, ◌∙◌, ℕ, ◌+◌, ◌*◌, ◌<◌, ◌≤◌, Bool, true, false}
+use Rattle.std.proofs.Common.{List, [], ◌∷◌, get_or, length, map, arith, refl, sym, ap, subst}
 use Rattle.std.proofs.Common.{if◌then◌else◌, inl, inr, eq-eqb}
 use Rattle.std.specs.Prelude.{All, None, ◌==◌, ◌/◌}
-use Rattle.std.specs.List.{Contains, flat_map}
+use Rattle.std.specs.List.{flat_map}
 use Rattle.std.proofs.lemmas.Bool.{eqb-true, leb-true}
 use Rattle.std.proofs.lemmas.List.Elements.{Contains-get_or}
 use Rattle.cfs_block.specs.BlockImages.{BlockStep}
 use Rattle.cfs_core.proofs.Legal.{both}
 use Rattle.cfs_dir.specs.declared.node.Node.{Node}
 use Rattle.cfs_dir.specs.Namespace.{is_directory}
-use Rattle.cfs_dir.specs.Tree.{IsTree}
 use Rattle.cfs_file.specs.declared.request.Request.{Request}
 use Rattle.cfs_file.specs.declared.request.Request.TheVariants as requests
 use Rattle.cfs_home.specs.Calls.{size_in}
-use Rattle.cfs_home.specs.Disks.{AreReady, File, part_of}
+use Rattle.cfs_home.specs.Disks.{AreReady, File}
 use Rattle.cfs_home.specs.Parts.{ArePlaced, IsPlaced}
 use Rattle.cfs_image.specs.Checks.{Check, damage_of}
 use Rattle.cfs_image.specs.Layout.{block_at, size_at}
 use Rattle.cfs_image.specs.Layout.{slot_at as first_slot_at}
 use Rattle.cfs_medium.specs.Store.{by_gate, live_in}
-use Rattle.cfs_medium.proofs.Has.{Has, contains-had, has-contained}
+use Rattle.cfs_medium.proofs.Has.{Has, has-contained}
 use Rattle.cfs_medium.proofs.Slots.{live-stands}
 use Rattle.cfs_medium.proofs.Sorted.{has-by_gate}
 use Rattle.cfs_pmem.specs.Images.{Seen, WordStep, words_of}
@@ -30,8 +29,8 @@ use Rattle.cfs_replay.specs.Pieces.{FindsBlocks, tags_in}
 use Rattle.cfs_replay.specs.Plans.{disk_in}
 use Rattle.cfs_replay.specs.Reading.{slots_in, words_at}
 use Rattle.cfs_slot.specs.Tails.{numbers_in, tails_at}
-use Rattle.cfs_slot.specs.Words.{count_of, ino_of, is_live, kind_of, offset_of, payload_of, request_of}
-use Rattle.cfs_slot.specs.Words.{tails_of}
+use Rattle.cfs_slot.specs.Words.{ino_of, is_live, kind_of, offset_of, payload_of}
+use Rattle.cfs_slot.specs.Words.{request_of}
 use Rattle.cfs_survey.specs.declared.live_entry.LiveEntry.{LiveEntry}
 use Rattle.cfs_survey.specs.Faults.{at_most}
 use Rattle.cfs_survey.specs.Live.{in_order, live_entries}
@@ -43,7 +42,7 @@ use Rattle.cfs_survey.specs.Tags.{is_file}
 use Rattle.cfs_survey.proofs.FirstFaults.{passed, sound_parts}
 use Rattle.cfs_plan.specs.Files.{file_with, files_of, node_of}
 use Rattle.cfs_plan.specs.Pendings.{pending_of, pendings}
-use Rattle.cfs_plan.specs.Readings.{AreReadOf, HasNothingPast}
+use Rattle.cfs_plan.specs.Readings.{HasNothingPast}
 use Rattle.cfs_plan.proofs.Found.{finds-blocks}
 use Rattle.cfs_plan.proofs.Heads.{AreHeadOf, count-same, heads-read, kind-same, offset-same}
 use Rattle.cfs_plan.proofs.Heads.{regions-many, slot-at, tails-same}

@@ -1,5 +1,5 @@
 -- What a sound survey tells of a store's words.
-use Rattle.std.proofs.Common.{◌≡◌, ◌∙◌, ℕ, ◌/◌, List, ◌++◌, length, sym, ap, subst}
+use Rattle.std.proofs.Common.{◌≡◌, ◌/◌, List, ◌++◌, length, sym, ap, subst}
 use Rattle.std.specs.Prelude.{None}
 use Rattle.cfs_dir.specs.declared.node.Node.{Node}
 use Rattle.cfs_dir.specs.Namespace.{Namespace}

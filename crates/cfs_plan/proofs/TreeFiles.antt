@@ -1,11 +1,10 @@
 -- The files of a tree: no two have a record or an inode number in common.
-use Rattle.std.proofs.Common.{◌≡◌, ◌≢◌, ◌⊎◌, ◌∙◌, ℕ, suc, ◌+◌, ◌<◌, ◌≤◌, Bool, true, false}
+use Rattle.std.proofs.Common.{◌≡◌, ◌⊎◌, ◌∙◌, ℕ, suc, ◌≤◌, Bool, true, false}
 use Rattle.std.proofs.Common.{Option, Some, None, List, [], ◌∷◌, arith, refl, sym, ap, ap₂, subst}
 use Rattle.std.proofs.Common.{inl, inr, eq-eqb}
 use Rattle.std.specs.Prelude.{All, ◌==◌, not, if◌then◌else◌}
-use Rattle.std.specs.List.{Contains}
 use Rattle.std.specs.Option.{option_map_or}
-use Rattle.std.proofs.lemmas.Bool.{cases_Bool, eqb-true}
+use Rattle.std.proofs.lemmas.Bool.{eqb-true}
 use Rattle.std.proofs.lemmas.List.Elements.{All-contains}
 use Rattle.cfs_core.proofs.Order.{same_or_not}
 use Rattle.cfs_dir.specs.declared.node.Node.{Node}
@@ -165,6 +164,7 @@ are-files nodes next tree file other among others =
         one_number : (m n : Node) → IsNodeOf nodes file m → IsNodeOf nodes other n →
             other.ino ≡ file.ino → n ≡ m
         one_number m n a b same =
-            some-one (sym (all-has (λ x. node_of nodes x.ino ≡ Some x) nodes n tree.number_once b.among)
+            some-one
+            (sym (all-has (λ x. node_of nodes x.ino ≡ Some x) nodes n tree.number_once b.among)
             ∙ ap (node_of nodes) (sym b.ino ∙ same ∙ a.ino)
             ∙ all-has (λ x. node_of nodes x.ino ≡ Some x) nodes m tree.number_once a.among)

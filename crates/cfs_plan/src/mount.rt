@@ -50,8 +50,8 @@ fn plan_lists(alloc: Global, words: &StoreWords, survey: &Survey) -> Result<Plan
 /// What a mount of a store is to do, by the store's words and what their survey told of them.
 ///
 /// `replay` of cfs_replay carries it out on the devices that read these words. Takes memory for the
-/// lists of the plan and a map of the files, and fails for want of it alone. Linear in the words and
-/// the files, but for look-ups in that map: one for each open slot, each tag and each entry.
+/// lists of the plan and a map of the files, and fails for want of it alone. Linear in the words
+/// and the files, but for look-ups in that map: one for each open slot, each tag and each entry.
 pub fn plan_mount(alloc: Global, words: &StoreWords, survey: &Survey) -> Result<Plan, NoMemory>
     requires whole { AreWhole (words_of words.now) }
     requires sound { damage_of (survey_checks (words_of words.now)) ≡ None }

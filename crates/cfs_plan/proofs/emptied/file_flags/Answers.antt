@@ -1,5 +1,4 @@
-use Rattle.std.proofs.Common.{◌<◌, ◌∙◌, ap, sym, subst, get_or, length, set, arith}
-use Rattle.std.specs.Prelude.{true}
+use Rattle.std.proofs.Common.{◌<◌, ◌∙◌, sym, subst, get_or, arith}
 use Rattle.std.proofs.lemmas.List.Elements.{All-contains, Contains-get_or}
 use Rattle.cfs_dir.specs.declared.node.Node.{Node}
 use Rattle.cfs_plan.proofs.Filters.{flag-length, flag-more}

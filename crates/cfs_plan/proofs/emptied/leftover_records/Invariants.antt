@@ -7,4 +7,5 @@ use Rattle.cfs_plan.proofs.emptied.leftover_records.Given as goal
 
 abbrev pub invariant-loop-rec : goal.invariant-loop-rec
 invariant-loop-rec l =
-    l.left.items ≡ filter (λ rec. is_leftover (files_of l.nodes) l.sizes rec) (range_with_len 0 l.rec)
+    l.left.items
+    ≡ filter (λ rec. is_leftover (files_of l.nodes) l.sizes rec) (range_with_len 0 l.rec)

@@ -1,8 +1,7 @@
-use Rattle.std.proofs.Common.{arith, get_or, length}
+use Rattle.std.proofs.Common.{arith, length}
 use Rattle.std.specs.Prelude.{All}
-use Rattle.cfs_home.specs.Disks.{AreReady}
 use Rattle.cfs_plan.specs.Mounts.{OnDevicesOf}
-use Rattle.cfs_plan.specs.Readings.{HasNothingPast, files_in}
+use Rattle.cfs_plan.specs.Readings.{files_in}
 use Rattle.cfs_plan.proofs.Plans.{is-plan-for, is-within, made-ok}
 use Rattle.cfs_plan.proofs.Ready.{are-ready, can-all}
 use Rattle.cfs_plan.proofs.Told.{are-sound}
