@@ -1,8 +1,8 @@
 //! Live entries are brought home from what their slots hold: the payload is read, the request is
 //! cut into pieces by the blocks that its file has, and these are brought home by `cfs_recover`.
 //!
-//! `replay` carries out the whole plan of a mount: it closes dead slots, brings the entries home, and
-//! clears blocks and size words that are no file's.
+//! `replay` carries out the whole plan of a mount: it closes dead slots, brings the entries home,
+//! and clears blocks and size words that are no file's.
 #![tactic(auto)]
 
 mod entries;
