@@ -1,5 +1,5 @@
 -- What follows of a write of a block.
-use Rattle.std.proofs.Common.{ℕ, ◌≡◌, ◌<◌, ◌≤◌, true, List, length, inl, ap, arith}
+use Rattle.std.proofs.Common.{ℕ, ◌≡◌, true, List, inl, ap, arith}
 use Rattle.std.specs.Prelude.{◌&&◌, nat_le}
 use Rattle.cfs_file.specs.declared.request.Request.{Request}
 use Rattle.cfs_file.specs.declared.request.Request.TheVariants as requests
