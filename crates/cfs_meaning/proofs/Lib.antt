@@ -49,3 +49,10 @@ pub mod ShownReads
 pub mod ShownLines
 pub mod ShownCrash
 pub mod SavedRuns
+pub mod Mapped
+pub mod Rests
+pub mod HomeFiles
+pub mod HomeNodes
+pub mod Homes
+pub mod HomeMounts
+pub mod NewStores
