@@ -1,9 +1,9 @@
 -- One file of a store that has everything home, as a mount makes it.
-use Rattle.std.proofs.Common.{◌≡◌, ◌≢◌, ℕ, ◌+◌, ◌*◌, ◌/◌, ◌%◌, ◌<◌, ◌≤◌, Bool, true, false, not}
+use Rattle.std.proofs.Common.{◌≡◌, ℕ, ◌+◌, ◌*◌, ◌/◌, ◌%◌, ◌<◌, ◌≤◌, Bool, true, false}
 use Rattle.std.proofs.Common.{◌&&◌, Option, Some, None, List, [], ◌∷◌, length, map, get_or, inl, inr}
 use Rattle.std.proofs.Common.{refl, sym, ap, ◌∙◌, subst, if◌then◌else◌, arith, is_some}
 use Rattle.std.specs.Prelude.{◌==◌, find, nat_lt}
-use Rattle.std.specs.List.{Contains, list_all, range_with_len}
+use Rattle.std.specs.List.{list_all, range_with_len}
 use Rattle.std.specs.Option.{option_map}
 use Rattle.std.proofs.lemmas.Bool.{cases_lt, eq-eqb, eqb-true, lt-ltb, ltb-true}
 use Rattle.std.proofs.lemmas.List.{get_or_past}
@@ -11,24 +11,23 @@ use Rattle.std.proofs.lemmas.List.FromFn.{get_or-map-range_with_len, length-map-
 use Rattle.cfs_file.specs.declared.sizes.TheConstants.{BLOCK_LEN, FILE_BLOCKS}
 use Rattle.cfs_core.specs.declared.flag.Flag.{Flag}
 use Rattle.cfs_core.specs.declared.flag.Flag.TheVariants.{Off, On, Unsure}
-use Rattle.cfs_core.specs.declared.inode_core.Core.{Core}
 use Rattle.cfs_core.specs.Fresh.{IsFresh, is_sure}
-use Rattle.cfs_core.specs.Medium.{rests, rests_as}
+use Rattle.cfs_core.specs.Medium.{rests_as}
 use Rattle.cfs_core.specs.Words.{flag_of, is_off}
 use Rattle.cfs_core_laws.proofs.Finds.{find-passes}
-use Rattle.cfs_block.specs.BlockImages.{Content, content_of}
+use Rattle.cfs_block.specs.BlockImages.{Content}
 use Rattle.cfs_dir.specs.declared.node.Node.{Node}
 use Rattle.cfs_medium.specs.Shows.{Shows}
 use Rattle.cfs_medium.specs.Store.{block_for, byte_in, byte_of, stored_file, tag_of}
-use Rattle.cfs_meaning.specs.Drive.{Drive, block_at, content_at, region_at}
+use Rattle.cfs_meaning.specs.Drive.{Drive, block_at, content_at}
 use Rattle.cfs_meaning.specs.Steps.{size_word}
-use Rattle.cfs_meaning.specs.World.{File, block_of, held_at}
+use Rattle.cfs_meaning.specs.World.{block_of}
 use Rattle.cfs_meaning.specs.Mounting.{block_numbers, is_mapped, mapped, mounted_core, mounted_file}
 use Rattle.cfs_meaning.specs.Mounting.{size_in, store_of}
 use Rattle.cfs_meaning.specs.Devices.{IsEquipped, devices_of_file}
 use Rattle.cfs_meaning.specs.Home.{IsFileHome, IsHome}
 use Rattle.cfs_meaning.proofs.Mapped.{any-found, find-mapped, found-low, pairs-behind, pairs-found}
-use Rattle.cfs_meaning.proofs.Rests.{IsRestBlock, IsTold, rest-shows}
+use Rattle.cfs_meaning.proofs.Rests.{IsRestBlock, rest-shows}
 
 -- ---- its blocks
 

@@ -4,8 +4,7 @@ use Rattle.std.proofs.Common.{subst}
 use Rattle.std.specs.Prelude.{Result, Ok, Err}
 use Rattle.cfs_dir.specs.declared.node.Node.{Node}
 use Rattle.cfs_print.specs.declared.printed.Printed.{Printed}
-use Rattle.cfs_script.specs.declared.form.Form.TheVariants as forms
-use Rattle.cfs_meaning.specs.Drive.{Drive, Op}
+use Rattle.cfs_meaning.specs.Drive.{Op}
 use Rattle.cfs_meaning.specs.World.{Down, Failed, Phase, Up, World}
 use Rattle.cfs_meaning.specs.Mounting.{bring_home, mount_steps}
 use Rattle.cfs_meaning.specs.Home.{Begins, IsHome, MountsShow}

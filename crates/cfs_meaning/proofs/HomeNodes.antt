@@ -1,11 +1,11 @@
 -- The nodes of a tree, and the files that a mount makes of them.
-use Rattle.std.proofs.Common.{◌≡◌, ◌≢◌, ◌⊎◌, ℕ, suc, ◌≤◌, Bool, true, false, Option, Some, None}
+use Rattle.std.proofs.Common.{◌≡◌, ◌≢◌, ℕ, suc, ◌≤◌, Bool, true, false, Some}
 use Rattle.std.proofs.Common.{List, [], ◌∷◌, map, filter, inl, inr, refl, sym, ap, ◌∙◌, subst, cond}
 use Rattle.std.proofs.Common.{arith}
 use Rattle.std.specs.List.{All}
 use Rattle.cfs_dir.specs.declared.node.Node.{Node}
 use Rattle.cfs_dir.specs.Namespace.{node_of}
-use Rattle.cfs_dir.specs.Tree.{AreAscendingFrom, IsTree}
+use Rattle.cfs_dir.specs.Tree.{AreAscendingFrom}
 use Rattle.cfs_medium.proofs.Has.{Has, contains-had}
 use Rattle.cfs_meaning.specs.Drive.{Drive}
 use Rattle.cfs_meaning.specs.World.{File}

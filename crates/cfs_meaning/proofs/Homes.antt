@@ -1,21 +1,20 @@
 -- A mount of devices that have everything home makes a world that they show.
-use Rattle.std.proofs.Common.{◌≡◌, ◌≢◌, ℕ, zero, suc, ◌+◌, ◌*◌, ◌<◌, ◌≤◌, Bool, true, false, not, Some, None}
-use Rattle.std.proofs.Common.{List, [], ◌∷◌, length, map, filter, take, inl, inr, refl, sym, ap}
-use Rattle.std.proofs.Common.{◌∙◌, subst, arith}
+use Rattle.std.proofs.Common.{◌≡◌, ◌≢◌, ℕ, zero, suc, ◌+◌, ◌*◌, ◌<◌, ◌≤◌, false, not, Some}
+use Rattle.std.proofs.Common.{List, [], ◌∷◌, map, take, inl, inr, refl, sym, ap}
+use Rattle.std.proofs.Common.{◌∙◌, arith}
 use Rattle.std.specs.List.{All, Contains}
 use Rattle.std.proofs.lemmas.List.Elements.{All-tail}
 use Rattle.cfs_file.specs.declared.sizes.TheConstants.{FILE_BLOCKS}
-use Rattle.cfs_core.specs.declared.inode_core.Core.{Core}
 use Rattle.cfs_core_laws.specs.Reached.{IsReached, begins}
 use Rattle.cfs_pmem.specs.Images.{IsImage, IsSure, Seen, WordStep, words_of}
 use Rattle.cfs_pmem.specs.Objects.{IsEachImage}
 use Rattle.cfs_dir.specs.declared.node.Node.{Node}
 use Rattle.cfs_dir.specs.Namespace.{is_directory, node_of}
 use Rattle.cfs_names.specs.Recovered.{recovered}
-use Rattle.cfs_meaning.specs.Drive.{Drive, content_at}
-use Rattle.cfs_meaning.specs.World.{Caller, File, World, block_of, devices_of, held_at}
+use Rattle.cfs_meaning.specs.Drive.{Drive}
+use Rattle.cfs_meaning.specs.World.{Caller}
 use Rattle.cfs_meaning.specs.Mounting.{files_of, mounted_file, mounted_world, recovered_tree}
-use Rattle.cfs_meaning.specs.Devices.{AllApart, AreApart, HaveOwnNumbers, IsFileEquipped}
+use Rattle.cfs_meaning.specs.Devices.{AreApart, IsFileEquipped}
 use Rattle.cfs_meaning.specs.Devices.{IsFileShown, IsPlaced, IsTreeShown, OfEachFile}
 use Rattle.cfs_meaning.specs.Home.{HomesAreShown, IsFileHome, IsHome}
 use Rattle.cfs_meaning.specs.Laws.{OfEachCore}

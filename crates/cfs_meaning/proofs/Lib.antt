@@ -46,6 +46,7 @@ pub mod ShownTurns
 pub mod ShownWork
 pub mod ShownParts
 pub mod ShownReads
+pub mod ShownHelps
 pub mod ShownLines
 pub mod ShownCrash
 pub mod SavedRuns

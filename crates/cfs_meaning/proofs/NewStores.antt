@@ -1,8 +1,8 @@
 -- The devices of a new store have everything home.
-use Rattle.std.proofs.Common.{◌≡◌, ℕ, zero, suc, ◌+◌, ◌-◌, ◌*◌, ◌<◌, ◌≤◌, Bool, true, false, List, []}
+use Rattle.std.proofs.Common.{◌≡◌, ℕ, zero, suc, ◌+◌, ◌-◌, ◌<◌, List, []}
 use Rattle.std.proofs.Common.{◌∷◌, ◌++◌, length, map, drop, take, get_or, refl, sym, ap, ◌∙◌, subst}
 use Rattle.std.proofs.Common.{if◌then◌else◌, arith}
-use Rattle.std.specs.Prelude.{◌==◌, nat_lt, replicate}
+use Rattle.std.specs.Prelude.{◌==◌, replicate}
 use Rattle.std.specs.List.{All, enumerate_from, range_with_len}
 use Rattle.std.proofs.lemmas.Bool.{ne_eqb}
 use Rattle.std.proofs.lemmas.Bool.Decides.{nat_tests}
@@ -16,7 +16,6 @@ use Rattle.cfs_pmem.proofs.ImageLemmas.{sure_began}
 use Rattle.cfs_block.specs.BlockImages as blocks
 use Rattle.cfs_block.specs.BlockImages.{BlockStep, Content, IsSureBlock}
 use Rattle.cfs_block.proofs.BlockLemmas as block_lemmas
-use Rattle.cfs_dir.specs.declared.node.Node.{Node}
 use Rattle.cfs_dir.specs.Change.{changed_by}
 use Rattle.cfs_dir.specs.Namespace.{Namespace}
 use Rattle.cfs_dir.specs.Tree.{IsTree, root_of}
@@ -28,11 +27,11 @@ use Rattle.cfs_ckpt.specs.Loads.{Loaded, loaded, selected, word_in}
 use Rattle.cfs_names.specs.Recovered.{recovered}
 use Rattle.cfs_image.specs.Fresh.{front_of, new_content, new_table, new_words}
 use Rattle.cfs_image.specs.Layout.{region_count, region_words}
-use Rattle.cfs_meaning.specs.Drive.{Drive, region_at}
+use Rattle.cfs_meaning.specs.Drive.{region_at}
 use Rattle.cfs_meaning.specs.Steps.{size_word}
 use Rattle.cfs_meaning.specs.Mounting.{files_of, recovered_tree, tree_words}
 use Rattle.cfs_meaning.specs.Devices.{HasWord, IsEvenBlock, IsEvenRegion}
-use Rattle.cfs_meaning.specs.Home.{IsFileHome, IsHome, NewStoresAreHome, new_drive}
+use Rattle.cfs_meaning.specs.Home.{IsFileHome, NewStoresAreHome, new_drive}
 
 -- ---- regions and blocks
 

@@ -1,6 +1,6 @@
 -- Devices that say one thing each, with no request in their slots, show a core of which nothing is
 -- logged.
-use Rattle.std.proofs.Common.{◌≡◌, ◌≢◌, ℕ, ◌+◌, ◌-◌, ◌*◌, ◌<◌, Bool, true, false, ◌||◌, Option}
+use Rattle.std.proofs.Common.{◌≡◌, ℕ, ◌+◌, ◌-◌, ◌*◌, ◌<◌, Bool, true, false, ◌||◌, Option}
 use Rattle.std.proofs.Common.{Some, None, List, [], ◌∷◌, length, get_or, refl, sym, ap, ◌∙◌, subst}
 use Rattle.std.proofs.Common.{if◌then◌else◌, arith}
 use Rattle.std.specs.Prelude.{◌==◌}
@@ -11,11 +11,9 @@ use Rattle.cfs_core.specs.declared.flag.Flag.TheVariants.{Off, On}
 use Rattle.cfs_core.specs.declared.inode_core.Core.{Core}
 use Rattle.cfs_core.specs.declared.track.Track.{Track}
 use Rattle.cfs_core.specs.Words.{blank, can_be, track}
-use Rattle.cfs_core.specs.Medium.{is_size}
-use Rattle.cfs_pmem.specs.Images.{IsImage, IsSure, Seen, WordStep, words_of}
-use Rattle.cfs_pmem.specs.Objects.{IsEachImage}
-use Rattle.cfs_block.specs.BlockImages.{BlockStep, Content, IsSureBlock, content_of}
-use Rattle.cfs_medium.specs.Shows.{BlockFits, BlockShown, Shows, SlotFits, SlotsShown, holding}
+use Rattle.cfs_pmem.specs.Images.{IsSure, Seen, words_of}
+use Rattle.cfs_block.specs.BlockImages.{BlockStep, IsSureBlock, content_of}
+use Rattle.cfs_medium.specs.Shows.{BlockFits, BlockShown, Shows, SlotsShown, holding}
 use Rattle.cfs_medium.specs.Shows.{is_for}
 use Rattle.cfs_medium.specs.Store.{tag_of}
 use Rattle.cfs_medium.specs.World as media
