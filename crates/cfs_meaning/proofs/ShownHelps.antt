@@ -72,7 +72,8 @@ clear-all ino place = any-all (λ x. by-verdict x (serve_verdict (core_in x ino)
     by-verdict x Absent = leave-give (λ w all. all)
     by-verdict x Ready = leave-give (λ w all. all)
 
-of-all : {A : Type 0} {way : Way A} → Leaves (λ w. IsShown w × AllWork w) (λ a. AllWork) AllWork way →
+of-all : {A : Type 0} {way : Way A} →
+    Leaves (λ w. IsShown w × AllWork w) (λ a. AllWork) AllWork way →
     Leaves AllWork (λ a. AllWork) AllWork way
 of-all one =
     leave-weaker {P = λ w. IsShown w × AllWork w} (λ w all. (all.shown, all)) (λ a w q. q)

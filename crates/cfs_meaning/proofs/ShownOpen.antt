@@ -8,9 +8,11 @@ use Rattle.cfs_core.specs.declared.event.SizeEnd.{SizeEnd}
 use Rattle.cfs_core.specs.declared.state.Lease.{Lease}
 use Rattle.cfs_core.specs.After.{after}
 use Rattle.cfs_meaning.specs.Drive.{Op}
-use Rattle.cfs_meaning.specs.World.{Descriptor, File, World, core_in, file_in, find_file, new_file, with_file}
+use Rattle.cfs_meaning.specs.World.{Descriptor, File, World, core_in, file_in, find_file, new_file}
+use Rattle.cfs_meaning.specs.World.{with_file}
 use Rattle.cfs_meaning.specs.Devices.{NoneHasEnded}
-use Rattle.cfs_meaning.specs.Inode.{admit_read, apply, back, back_unless, close_or_apply, come_back, dispatch, drop_read, serve}
+use Rattle.cfs_meaning.specs.Inode.{admit_read, apply, back, back_unless, close_or_apply, come_back}
+use Rattle.cfs_meaning.specs.Inode.{dispatch, drop_read, serve}
 use Rattle.cfs_meaning.specs.Inode.{event, finish, finish_with, flush_block, next_step}
 use Rattle.cfs_meaning.specs.Inode.{retire, set_size, skip, trim}
 use Rattle.cfs_meaning.specs.Inode.{trim_at, try_to_close, with_passed, without_block, without_held}
