@@ -46,6 +46,14 @@ pub mod ShownTurns
 pub mod ShownWork
 pub mod ShownParts
 pub mod ShownReads
+pub mod ShownHelps
 pub mod ShownLines
 pub mod ShownCrash
 pub mod SavedRuns
+pub mod Mapped
+pub mod Rests
+pub mod HomeFiles
+pub mod HomeNodes
+pub mod Homes
+pub mod HomeMounts
+pub mod NewStores

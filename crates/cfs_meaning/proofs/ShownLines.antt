@@ -1,12 +1,9 @@
 -- Lines that keep a world shown by its devices.
-use Rattle.std.proofs.Common.{◌≡◌, ℕ, ◌+◌, Bool, true, false, Option, ◌∷◌, length, refl, sym, subst}
-use Rattle.std.proofs.Common.{if◌then◌else◌}
+use Rattle.std.proofs.Common.{◌≡◌, ℕ, Bool, true, false, Option, ◌∷◌, refl, sym, subst}
+use Rattle.std.proofs.Common.{if◌then◌else◌, inl, inr}
 use Rattle.std.specs.Prelude.{Result, Ok, Err}
-use Rattle.cfs_file.specs.declared.entry.Entry.{Entry}
 use Rattle.cfs_file.specs.declared.request.Request.{Request}
 use Rattle.cfs_file.specs.declared.request.Request.TheVariants as requests
-use Rattle.cfs_core.specs.declared.event.Event.TheVariants as events
-use Rattle.cfs_medium.proofs.ReadEvents.{reads-may-come}
 use Rattle.cfs_pmem.specs.declared.trace.Asked.TheVariants.{Stopped}
 use Rattle.cfs_print.specs.declared.printed.Printed.{Printed}
 use Rattle.cfs_script.specs.declared.form.Form.{Form}
@@ -15,7 +12,7 @@ use Rattle.cfs_words.specs.declared.device.Device.{Device}
 use Rattle.cfs_words.specs.declared.seek.Seek.{Seek}
 use Rattle.cfs_meaning.specs.World.{Descriptor, Down, Failed, Phase, Up, World, core_in}
 use Rattle.cfs_meaning.specs.World.{descriptor_in}
-use Rattle.cfs_meaning.specs.Inode.{Absent, Behind, Ready, Verdict, admit_read, verdict}
+use Rattle.cfs_meaning.specs.Inode.{Absent, Behind, Ready, Verdict, verdict}
 use Rattle.cfs_meaning.specs.Files.{has_no_power, list_queue, lseek, most_read, opened}
 use Rattle.cfs_meaning.specs.Files.{opened_to_read, post}
 use Rattle.cfs_meaning.specs.Workers.{apply_line, dispatch_by, dispatch_line, there}
@@ -23,14 +20,15 @@ use Rattle.cfs_meaning.specs.Devices.{IsShown, Suits, LinesKeepShown, keeps_show
 use Rattle.cfs_meaning.specs.Laws.{AreReached, is_mount}
 use Rattle.cfs_meaning.specs.Play.{does, plan, steps_so, stopped, up, while_up}
 use Rattle.cfs_meaning.specs.Ways.{Halt, Now, Way, now}
-use Rattle.cfs_meaning.proofs.Hoare.{Leaves, leave-changes, leave-end, leave-event, leave-look}
+use Rattle.cfs_meaning.proofs.Hoare.{Leaves, leave-changes, leave-end, leave-look}
 use Rattle.cfs_meaning.proofs.Hoare.{leave-refuse, leave-then, leave-weaker}
 use Rattle.cfs_meaning.proofs.Lines.{mount-up, only-mount}
 use Rattle.cfs_meaning.proofs.ShownJobs.{AtWork, apply-shown}
-use Rattle.cfs_meaning.proofs.ShownFiles.{asked-shown, event-shown}
+use Rattle.cfs_meaning.proofs.ShownFiles.{asked-shown}
 use Rattle.cfs_meaning.proofs.ShownParts.{Keeps, any-give, any-known, any-look, any-refuse}
-use Rattle.cfs_meaning.proofs.ShownParts.{keep-dispatch, keep-told, keep-up, moved-shown}
+use Rattle.cfs_meaning.proofs.ShownParts.{keep-dispatch, keep-read, keep-told, keep-up, moved-shown}
 use Rattle.cfs_meaning.proofs.ShownParts.{same-shown}
+use Rattle.cfs_meaning.proofs.ShownHelps.{read-helping, serve-helping, sync-helping}
 use Rattle.cfs_meaning.proofs.ShownReads.{read-line, serve-line, sync-line}
 use Rattle.cfs_meaning.proofs.ShownTurns.{finish-line, settle-line, skip-line, trim-line}
 use Rattle.cfs_meaning.proofs.ShownWork.{drain-shown, turn-shown}
@@ -55,25 +53,6 @@ keep-to-read c fd =
     leave-then (any-refuse _ _) (λ u. any-give))
 
 -- ---- events that no device shows
-
-keep-read : (d : Descriptor) (c line : ℕ) (request : Request) →
-    Keeps (admit_read d c line request)
-keep-read d c line request =
-    any-look (λ x.
-    leave-then (leave-event (λ w shown may_be.
-    event-shown w d.grant.ino (events.AdmitRead (entry x)) may_be refl
-    (λ i core devices shows allowed. reads-may-come i core (entry x) devices shows allowed) shown))
-    (λ u.
-    leave-then (leave-changes (λ w shown. same-shown w _ refl refl refl shown)) (λ v. any-give)))
-  where
-    entry : World → Entry
-    entry x = record {
-      ino = d.grant.ino;
-      place = length (core_in x d.grant.ino).log + 1;
-      caller = c;
-      line = line;
-      request = request;
-    }
 
 keep-post : (d : Descriptor) (c line : ℕ) (request : Request) → Keeps (post d c line request)
 keep-post d c line request =
@@ -222,16 +201,42 @@ more-line line forms.Turn old end new is of reached shown way =
 more-line line forms.Drain old end new is of reached shown way =
     shown-ends end new ((leave-up (λ w all. all.shown) drain-shown).by old end new
     (record { shown = shown; reached = reached; open_ = of }) way)
-more-line line (forms.Read c fd n) old end new is of reached shown way =
-    shown-ends end new ((read-line c fd line (λ d. requests.Read d.position (most_read n)) true).by
-    old end new (shown, of) way)
-more-line line (forms.Pread c fd offset n) old end new is of reached shown way =
-    shown-ends end new ((read-line c fd line (λ d. requests.Read offset (most_read n)) false).by old
-    end new (shown, of) way)
-more-line line (forms.Fsync c fd) old end new is of reached shown way =
-    shown-ends end new ((sync-line c fd line requests.Sync).by old end new (shown, of) way)
-more-line line (forms.Serve c fd place) old end new is of reached shown way =
-    shown-ends end new ((serve-line c fd place).by old end new (shown, of) way)
+more-line line (forms.Read c fd n) old end new is of reached shown way = elim of [
+  | inl open_ ↦
+      shown-ends end new ((leave-up (λ w all. all.shown)
+      (read-helping c fd line (λ d. requests.Read d.position (most_read n)) true)).by old end new
+      (record { shown = shown; reached = reached; open_ = open_ }) way)
+  | inr free ↦
+      shown-ends end new
+      ((read-line c fd line (λ d. requests.Read d.position (most_read n)) true).by old end new
+      (shown, free) way)
+]
+more-line line (forms.Pread c fd offset n) old end new is of reached shown way = elim of [
+  | inl open_ ↦
+      shown-ends end new ((leave-up (λ w all. all.shown)
+      (read-helping c fd line (λ d. requests.Read offset (most_read n)) false)).by old end new
+      (record { shown = shown; reached = reached; open_ = open_ }) way)
+  | inr free ↦
+      shown-ends end new
+      ((read-line c fd line (λ d. requests.Read offset (most_read n)) false).by old end new
+      (shown, free) way)
+]
+more-line line (forms.Fsync c fd) old end new is of reached shown way = elim of [
+  | inl open_ ↦
+      shown-ends end new ((leave-up (λ w all. all.shown)
+      (sync-helping c fd line requests.Sync)).by old end new
+      (record { shown = shown; reached = reached; open_ = open_ }) way)
+  | inr free ↦
+      shown-ends end new
+      ((sync-line c fd line requests.Sync).by old end new (shown, free) way)
+]
+more-line line (forms.Serve c fd place) old end new is of reached shown way = elim of [
+  | inl open_ ↦
+      shown-ends end new ((leave-up (λ w all. all.shown) (serve-helping c fd place)).by old end new
+      (record { shown = shown; reached = reached; open_ = open_ }) way)
+  | inr free ↦
+      shown-ends end new ((serve-line c fd place).by old end new (shown, free) way)
+]
 more-line line form old end new is of reached shown way = absurd (cc)
 
 pub lines-keep-shown : LinesKeepShown

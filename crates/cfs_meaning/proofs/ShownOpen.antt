@@ -2,14 +2,17 @@
 use Rattle.std.proofs.Common.{◌≡◌, ℕ, zero, suc, Bool, true, false, Option, Some, None, List}
 use Rattle.std.proofs.Common.{replicate, refl, ap, ◌∙◌}
 use Rattle.std.specs.Prelude.{Result, Ok, Err, unwrap_or}
+use Rattle.cfs_file.specs.declared.request.Request.{Request}
 use Rattle.cfs_core.specs.declared.event.Event.{Event}
 use Rattle.cfs_core.specs.declared.event.SizeEnd.{SizeEnd}
 use Rattle.cfs_core.specs.declared.state.Lease.{Lease}
 use Rattle.cfs_core.specs.After.{after}
 use Rattle.cfs_meaning.specs.Drive.{Op}
-use Rattle.cfs_meaning.specs.World.{File, World, core_in, file_in, find_file, new_file, with_file}
+use Rattle.cfs_meaning.specs.World.{Descriptor, File, World, core_in, file_in, find_file, new_file}
+use Rattle.cfs_meaning.specs.World.{with_file}
 use Rattle.cfs_meaning.specs.Devices.{NoneHasEnded}
-use Rattle.cfs_meaning.specs.Inode.{apply, back, back_unless, close_or_apply, come_back, dispatch}
+use Rattle.cfs_meaning.specs.Inode.{admit_read, apply, back, back_unless, close_or_apply, come_back}
+use Rattle.cfs_meaning.specs.Inode.{dispatch, drop_read, serve}
 use Rattle.cfs_meaning.specs.Inode.{event, finish, finish_with, flush_block, next_step}
 use Rattle.cfs_meaning.specs.Inode.{retire, set_size, skip, trim}
 use Rattle.cfs_meaning.specs.Inode.{trim_at, try_to_close, with_passed, without_block, without_held}
@@ -226,3 +229,21 @@ open-trim-at ino (Some k) =
 
 pub open-trim : (ino : ℕ) → Opens (trim ino)
 open-trim ino = open-look (λ w. open-trim-at ino _)
+
+-- ---- reads
+
+pub open-read : (d : Descriptor) (c line : ℕ) (request : Request) →
+    Opens (admit_read d c line request)
+open-read d c line request =
+    open-look (λ w.
+    open-then open-event (λ u.
+    open-then (leave-changes (λ v open_. open_)) (λ t. open-give)))
+
+pub open-serve : (ino place : ℕ) → Opens (serve ino place)
+open-serve ino place =
+    open-look (λ w.
+    open-then open-steps (λ u.
+    open-then open-event (λ v. open-give)))
+
+pub open-drop : (ino place : ℕ) → Opens (drop_read ino place)
+open-drop ino place = open-event

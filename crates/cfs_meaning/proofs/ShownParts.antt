@@ -1,12 +1,16 @@
 -- Parts of lines that keep a world shown by its devices.
-use Rattle.std.proofs.Common.{◌≡◌, ℕ, Bool, true, false, Option, Some, None, refl, sym, subst}
+use Rattle.std.proofs.Common.{◌≡◌, ℕ, ◌+◌, Bool, true, false, Option, Some, None, length, refl, sym}
+use Rattle.std.proofs.Common.{subst}
 use Rattle.std.proofs.Common.{if◌then◌else◌}
 use Rattle.cfs_print.specs.declared.printed.Printed.{Printed}
+use Rattle.cfs_file.specs.declared.entry.Entry.{Entry}
+use Rattle.cfs_file.specs.declared.request.Request.{Request}
 use Rattle.cfs_core.specs.declared.event.Event.TheVariants as events
 use Rattle.cfs_medium.proofs.QuietEvents.{quiet-events-show}
+use Rattle.cfs_medium.proofs.ReadEvents.{reads-may-come}
 use Rattle.cfs_meaning.specs.World.{Descriptor, Down, Failed, Phase, Up, World, core_in, file_in}
 use Rattle.cfs_meaning.specs.World.{with_descriptor, with_file}
-use Rattle.cfs_meaning.specs.Inode.{dispatch, with_passed}
+use Rattle.cfs_meaning.specs.Inode.{admit_read, dispatch, with_passed}
 use Rattle.cfs_meaning.specs.Files.{at_position, has_no_power, moved_by}
 use Rattle.cfs_meaning.specs.Devices.{IsShown}
 use Rattle.cfs_meaning.specs.Play.{told, up, while_up}
@@ -89,6 +93,27 @@ keep-dispatch ino place =
     (λ i core devices shows allowed.
     quiet-events-show i core (events.Dispatch place) devices shows refl allowed) shown)) (λ u.
     leave-changes (λ w shown. passed-shown ino place 0 w shown))
+
+-- ---- a read comes
+
+pub keep-read : (d : Descriptor) (c line : ℕ) (request : Request) →
+    Keeps (admit_read d c line request)
+keep-read d c line request =
+    any-look (λ x.
+    leave-then (leave-event (λ w shown may_be.
+    event-shown w d.grant.ino (events.AdmitRead (entry x)) may_be refl
+    (λ i core devices shows allowed. reads-may-come i core (entry x) devices shows allowed) shown))
+    (λ u.
+    leave-then (leave-changes (λ w shown. same-shown w _ refl refl refl shown)) (λ v. any-give)))
+  where
+    entry : World → Entry
+    entry x = record {
+      ino = d.grant.ino;
+      place = length (core_in x d.grant.ino).log + 1;
+      caller = c;
+      line = line;
+      request = request;
+    }
 
 -- ---- positions
 

@@ -214,14 +214,14 @@ steps-asked x P ops reading shows =
     (only.0, ap (λ d. record w { drive = d }) only.1))) (λ b.
     leave-unless b (λ w shown. shown) (λ w shown. shown))
 
-served-shown : (ino place : ℕ) →
-    Leaves (Reading ino) (λ bytes. IsShown) IsShown (serve ino place)
+pub served-shown : (ino place : ℕ) →
+    Leaves IsShown (λ bytes. IsShown) IsShown (serve ino place)
 served-shown ino place =
     leave-look (λ x.
     leave-then {Q = λ u. IsShown}
-    (steps-asked x (Reading ino) _
+    (steps-asked x IsShown _
     (block-reads (file_in x ino) (blocks_needed (track (core_in x ino).tracks place).span))
-    (λ w holds. holds.0)) (λ u.
+    (λ w shown. shown)) (λ u.
     leave-then {Q = λ v. IsShown}
     (leave-event (λ w shown may_be.
     event-shown w ino (events.Serve place (Some (its_bytes x))) may_be refl
@@ -233,7 +233,7 @@ served-shown ino place =
     its_bytes x = map (reads (core_in x ino))
         (positions (track (core_in x ino).tracks place).span)
 
-dropped-shown : (ino place : ℕ) → Leaves IsShown (λ u. IsShown) IsShown (drop_read ino place)
+pub dropped-shown : (ino place : ℕ) → Leaves IsShown (λ u. IsShown) IsShown (drop_read ino place)
 dropped-shown ino place =
     leave-event (λ w shown may_be.
     event-shown w ino (events.Serve place None) may_be refl
@@ -258,13 +258,15 @@ helped-shown ino place = record {
   by = mends-by
       (leave-then {Q = λ n. Reading ino}
       (record { by = repeats-by (clear-reading ino place) })
-      (λ n. served-shown ino place))
+      (λ n.
+      leave-weaker {P = IsShown} (λ w holds. holds.0) (λ a w q. q) (λ w e. e)
+      (served-shown ino place)))
       (dropped-shown ino place);
 }
 
 -- ---- lines
 
-defers-by : {P E : World → Type 0} {ino place : ℕ} {way : Way (List ℕ)} {move : World → World} →
+pub defers-by : {P E : World → Type 0} {ino place : ℕ} {way : Way (List ℕ)} {move : World → World} →
     Leaves P (λ bytes. E) E way → ((w : World) → E w → E (move w)) → (old : World)
     (end : Result (List ℕ) Halt) (new : World) → P old → Defers ino place way move old end new →
     IfEnds (λ bytes. E) E end new
@@ -274,12 +276,12 @@ defers-by one moved old end new holds (defers {new = mid} {q = q} way) =
     moved mid (one.by old (Err (Waits q)) mid holds way)
 defers-by one moved old end new holds (faults way) = one.by old (Err Fault) new holds way
 
-moves-shown : (c : ℕ) (d : Descriptor) (moves : Bool) (place : ℕ) (w : World) → IsShown w →
+pub moves-shown : (c : ℕ) (d : Descriptor) (moves : Bool) (place : ℕ) (w : World) → IsShown w →
     IsShown (move_by c d moves place w)
 moves-shown c d false place w shown = shown
 moves-shown c d true place w shown = moved-shown (descriptor_in w c d.fd) c _ w shown
 
-said-shown : (ino place : ℕ) (bytes : List ℕ) → Keeps (say_served ino place bytes)
+pub said-shown : (ino place : ℕ) (bytes : List ℕ) → Keeps (say_served ino place bytes)
 said-shown ino place bytes = any-look (λ x. any-give)
 
 pub read-shown : (d : Descriptor) (c line : ℕ) (request : Request) (moves : Bool) →

@@ -248,7 +248,7 @@ dispatch-all ino place =
     (leave-kept (kept-dispatch (law_of (reached_law 0)) ino place)) (open-dispatch ino place))
     (dispatch-out ino place))
 
-job-all : (ino place : ℕ) → Leaves AllWork (λ more. AllWork) AllWork (run_job ino place)
+pub job-all : (ino place : ℕ) → Leaves AllWork (λ more. AllWork) AllWork (run_job ino place)
 job-all ino place =
     leave-then {Q = λ u. IsAllOut ino place} (dispatch-all ino place) (λ u.
     leave-look (λ x.
@@ -454,7 +454,7 @@ noops-are w shown =
 
 -- ---- turns
 
-skip-all : (ino place : ℕ) →
+pub skip-all : (ino place : ℕ) →
     Leaves (λ w. AllWork w × (is_noop (track (core_in w ino).tracks place).state ≡ true))
     (λ u. AllWork) AllWork (skip ino place)
 skip-all ino place =

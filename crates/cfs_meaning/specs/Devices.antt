@@ -1,5 +1,6 @@
 -- When the devices of a store show a world: each image of them fits it.
-use Rattle.std.specs.Prelude.{◌≡◌, ◌≢◌, ℕ, ◌+◌, ◌<◌, Bool, true, false, not, ◌||◌, Some, List, []}
+use Rattle.std.specs.Prelude.{◌≡◌, ◌≢◌, ◌⊎◌, ℕ, ◌+◌, ◌<◌, Bool, true, false, not, ◌||◌, Some, List}
+use Rattle.std.specs.Prelude.{[]}
 use Rattle.std.specs.Prelude.{◌∷◌, length, map, take, get_or, is_some}
 use Rattle.std.specs.List.{All, Contains, list_any}
 use Rattle.std.specs.Option.{option_map}
@@ -173,17 +174,17 @@ keeps_shown other = false
 abbrev pub NothingLive : Core → Type 0
 NothingLive core = list_any (λ t. is_live t.state) core.tracks ≡ false
 
+-- no core has ended
+abbrev pub NoneHasEnded : World → Type 0
+NoneHasEnded world = OfEachFile (λ f. f.ended ≡ false) world.files
+
 -- nothing of the file that is open there is live
 abbrev pub IsRead : ℕ → ℕ → World → Type 0
 IsRead c fd world =
     (d : Descriptor) → descriptor_in world c fd ≡ Some d → NothingLive (core_in world d.grant.ino)
 
--- no core has ended
-abbrev pub NoneHasEnded : World → Type 0
-NoneHasEnded world = OfEachFile (λ f. f.ended ≡ false) world.files
-
--- A worker's line is about files whose cores have not ended, and what is read has nothing in its
--- way.
+-- A worker's line is about files whose cores have not ended; so is one that reads, or else what is
+-- read has nothing in its way.
 abbrev pub Suits : World → Form → Type 0
 Suits world (forms.Apply ino place) = (file_in world ino).ended ≡ false
 Suits world (forms.Finish ino place) = (file_in world ino).ended ≡ false
@@ -192,10 +193,10 @@ Suits world (forms.Settle ino) = (file_in world ino).ended ≡ false
 Suits world (forms.Trim ino) = NoneHasEnded world
 Suits world forms.Turn = NoneHasEnded world
 Suits world forms.Drain = NoneHasEnded world
-Suits world (forms.Read c fd n) = IsRead c fd world
-Suits world (forms.Pread c fd offset n) = IsRead c fd world
-Suits world (forms.Fsync c fd) = IsRead c fd world
-Suits world (forms.Serve c fd place) = IsRead c fd world
+Suits world (forms.Read c fd n) = NoneHasEnded world ⊎ IsRead c fd world
+Suits world (forms.Pread c fd offset n) = NoneHasEnded world ⊎ IsRead c fd world
+Suits world (forms.Fsync c fd) = NoneHasEnded world ⊎ IsRead c fd world
+Suits world (forms.Serve c fd place) = NoneHasEnded world ⊎ IsRead c fd world
 Suits world other = Unit {0}
 
 abbrev pub LinesKeepShown : Type 0

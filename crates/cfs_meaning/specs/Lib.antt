@@ -18,3 +18,4 @@ pub mod Devices
 pub mod Example
 pub mod Scripts
 pub mod Real
+pub mod Home

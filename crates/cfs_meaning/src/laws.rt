@@ -4,6 +4,7 @@ ghost use Rattle.cfs_meaning.specs.Answered.{LinesHaveAnswers};
 ghost use Rattle.cfs_meaning.specs.Devices.{CrashedRunsRecover, CrashesLeaveLess, CrashesRecover};
 ghost use Rattle.cfs_meaning.specs.Devices.{LinesKeepShown, ShownFilesRecover};
 ghost use Rattle.cfs_meaning.specs.Granted.{OpenFilesAreGranted};
+ghost use Rattle.cfs_meaning.specs.Home.{HomesAreShown, MountsShow, NewStoresAreHome};
 ghost use Rattle.cfs_meaning.specs.Laws.{AnswersAreOnly, CalmRunsAnswer, ChangesMakeSteps};
 ghost use Rattle.cfs_meaning.specs.Laws.{CoresStayReached, FilesAreGood, LogsFollowLines};
 ghost use Rattle.cfs_meaning.specs.Laws.{NamesStayLegal, ReadsAreRight, RunsKeepCores};
@@ -94,4 +95,20 @@ pub fn crashes_recover()
 /// And so they do until the next mount, whatever lines are tried, and crashes among them.
 pub fn crashed_runs_recover()
     ensures { CrashedRunsRecover }
+{}
+
+/// A mount of devices that have everything home makes a world that they show, and that all laws on
+/// shown worlds hold of.
+pub fn homes_are_shown()
+    ensures { HomesAreShown }
+{}
+
+/// So does a line that mounts, where its steps have left such devices.
+pub fn mounts_show()
+    ensures { MountsShow }
+{}
+
+/// The devices of a new store have everything home.
+pub fn new_stores_are_home()
+    ensures { NewStoresAreHome }
 {}
