@@ -7,17 +7,17 @@ use Rattle.cfs_pmem.specs.declared.trace.Asked.{Asked}
 use Rattle.cfs_pmem.specs.declared.fault.DeviceFault.{DeviceFault}
 use Rattle.cfs_pmem.specs.AllMoments.{AreDistinct, IsApartFrom}
 use Rattle.cfs_pmem.specs.Images.{IsImage, Seen, WordStep}
-use Rattle.cfs_pmem.specs.Objects.{IsCallOn, IsEachImage, all_devices}
+use Rattle.cfs_pmem.specs.Objects.{IsCallOn, IsEachImage}
 use Rattle.cfs_pmem.proofs.AllMomentLemmas.{Carries, all_after, all_among, all_weaker}
 use Rattle.cfs_block.specs.BlockImages.{BlockStep, IsBlockImage}
-use Rattle.cfs_block.specs.Devices.{AreImagesOf, DeviceImages, DeviceMoments, Devices}
+use Rattle.cfs_block.specs.Devices.{AreImagesOf, DeviceImages, Devices}
 use Rattle.cfs_block.specs.Devices.{IsDeviceCall, numbers_of}
 use Rattle.cfs_slot.specs.Payload.{HaveCause, NoneFell, SomeRose}
 use Rattle.cfs_store_words.specs.declared.read_failed.ReadFailed.{ReadFailed}
 use Rattle.cfs_store_words.specs.declared.read_failed.ReadFailed.TheVariants.{Failed, NoMemory}
 use Rattle.cfs_store_words.specs.Causes.{ReadCaused, TellsCause}
 use Rattle.cfs_store_words.specs.Leaves.{LeavesEach, LeavesStore, devices}
-use Rattle.cfs_store_words.proofs.Calls.{none-fell}
+use Rattle.cfs_store_words.proofs.Calls.{none-fell, went-well}
 
 -- ---- distinct devices
 
@@ -163,3 +163,44 @@ cause-back front old new (Err error) cause = record {
   failed = caused-back front old new error cause.failed;
   passed = tt;
 }
+
+-- a call that stops behind calls that went well
+pub stops : {T U : Type 0} (befores mids nows : List ℕ) (error : ReadFailed)
+    (result : Result T ReadFailed) → IsErrAnd result (λ (e : ReadFailed). e ≡ error) →
+    mids ≡ befores → TellsCause {T = U} ReadCaused mids nows (Err error) →
+    TellsCause ReadCaused befores nows result
+stops {T} befores mids nows error result is same cause =
+    let p = err_from_is_err_and result is in
+    subst (λ (r : Result T ReadFailed). TellsCause ReadCaused befores nows r)
+    (sym (p.1 ∙ ap (λ (e : ReadFailed). Err e) p.2)) record {
+      later = subst (λ (ns : List ℕ). NoneFell ns nows) same cause.later;
+      failed = subst (λ (ns : List ℕ). ReadCaused ns nows error) same cause.failed;
+      passed = tt;
+    }
+
+pub stops-first : {T U : Type 0} (befores nows : List ℕ) (fault : DeviceFault)
+    (result : Result T ReadFailed) → IsErrAnd result (λ (e : ReadFailed). e ≡ Failed fault) →
+    HaveCause {T = U} befores nows (Err fault) → TellsCause ReadCaused befores nows result
+stops-first {T} befores nows fault result is cause =
+    let p = err_from_is_err_and result is in
+    subst (λ (r : Result T ReadFailed). TellsCause ReadCaused befores nows r)
+    (sym (p.1 ∙ ap (λ (e : ReadFailed). Err e) p.2)) record {
+      later = cause.later;
+      failed = cause.failed;
+      passed = tt;
+    }
+
+pub stops-behind : {T U : Type 0} (front fronts befores nows : List ℕ) (error : ReadFailed)
+    (result : Result T ReadFailed) → IsErrAnd result (λ (e : ReadFailed). e ≡ error) →
+    fronts ≡ front → TellsCause {T = U} ReadCaused befores nows (Err error) →
+    TellsCause ReadCaused (front ++ befores) (fronts ++ nows) result
+stops-behind {T} front fronts befores nows error result is same cause =
+    subst (λ (ns : List ℕ). TellsCause ReadCaused (front ++ befores) (ns ++ nows) result) (sym same)
+    (cause-back front befores nows result
+    (stops befores befores nows error result is refl cause))
+
+pub both-well : {T : Type 0} (front fronts befores nows : List ℕ) (t : T) → fronts ≡ front →
+    nows ≡ befores → TellsCause ReadCaused (front ++ befores) (fronts ++ nows) (Ok t)
+both-well front fronts befores nows t same behind =
+    went-well (front ++ befores) (fronts ++ nows) t
+    (ap (λ (ns : List ℕ). ns ++ nows) same ∙ ap (λ (ns : List ℕ). front ++ ns) behind)

@@ -1,5 +1,5 @@
 -- Reads, one after another.
-use Rattle.std.proofs.Common.{ℕ, zero, suc, ◌+◌, ◌<◌, ◌≤◌, ◌≡◌, ◌∙◌, Result, Ok, Err, List, [], ◌∷◌}
+use Rattle.std.proofs.Common.{ℕ, zero, suc, ◌<◌, ◌≡◌, ◌∙◌, Result, Ok, Err, List, [], ◌∷◌}
 use Rattle.std.proofs.Common.{length, map, get_or, set, inl, inr, refl, sym, ap, subst, arith}
 use Rattle.std.proofs.lemmas.Result.{err_from_is_err_and}
 use Rattle.std.specs.Result.{IsErrAnd}
@@ -14,7 +14,7 @@ use Rattle.cfs_pmem.proofs.AllMomentLemmas.{all_after, all_begun, all_weaker}
 use Rattle.cfs_pmem.proofs.ObjectLemmas.{map-see-set, one_of, seen_at-map}
 use Rattle.cfs_slot.specs.Payload.{HaveCause, NoneFell}
 use Rattle.cfs_store_words.specs.declared.read_failed.ReadFailed.{ReadFailed}
-use Rattle.cfs_store_words.specs.declared.read_failed.ReadFailed.TheVariants.{Failed, NoMemory}
+use Rattle.cfs_store_words.specs.declared.read_failed.ReadFailed.TheVariants.{NoMemory}
 use Rattle.cfs_store_words.specs.Causes.{ReadCaused, TellsCause}
 use Rattle.cfs_store_words.specs.Leaves.{LeavesEach}
 

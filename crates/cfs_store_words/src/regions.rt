@@ -104,8 +104,7 @@ pub(crate) fn read_table<R: Region, P: Power>(
     selector: u64,
 ) -> Result<Vec<u64>, ReadFailed>
     requires places { 3 ≤ length regions.old }
-    requires within {
-        length (row_at (map R.seen regions.old) (1 + selector % 2)) ≡ 3073 }
+    requires within { length (row_at (map R.seen regions.old) (1 + selector % 2)) ≡ 3073 }
     requires distinct { AreDistinct (all_devices (map R.seen regions.old)) }
     ensures table { IfOk result
         (λ table. table.items ≡ row_at (map R.seen regions.old) (1 + selector % 2)) }

@@ -1,4 +1,4 @@
-use Rattle.std.proofs.Common.{ℕ, ◌≡◌, ◌∙◌, List, [], ◌∷◌, ◌++◌, length, map, take, ap, refl, arith, sym}
+use Rattle.std.proofs.Common.{ℕ, ◌∙◌, List, [], ◌∷◌, ◌++◌, map, take, ap, refl, arith, sym}
 use Rattle.std.proofs.lemmas.List.{length-map}
 use Rattle.cfs_pmem.specs.Images.{Seen}
 use Rattle.cfs_block.specs.BlockImages.{BlockStep, IsBlockImage}
@@ -33,8 +33,11 @@ loop-place-preserved g c =
           ∙ ap (λ (seens : List (Seen BlockStep)). tag_at seens c.loop-place.place)
           inv.leaves.same)
           ∙ sym (tag-more olds c.loop-place.place
-          (omega (arith, c.loop-place-test.true,
-          length-map c.args.blocks.now g.B.Block.seen)))));
+          (omega (
+            arith,
+            c.loop-place-test.true,
+            length-map c.args.blocks.now g.B.Block.seen,
+          )))));
     }
 
 pub returns-clause-cause : goal.returns-clause-cause

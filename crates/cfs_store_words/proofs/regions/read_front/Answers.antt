@@ -1,4 +1,4 @@
-use Rattle.std.proofs.Common.{ℕ, ◌≡◌, ◌∙◌, ◌<◌, List, get_or, length, map, ap, arith}
+use Rattle.std.proofs.Common.{◌∙◌, ◌<◌, List, get_or, length, map, ap, arith}
 use Rattle.std.proofs.lemmas.List.{length-set}
 use Rattle.cfs_pmem.specs.Images.{IsImage, Seen, WordStep}
 use Rattle.cfs_store_words.specs.Rows.{row_at}

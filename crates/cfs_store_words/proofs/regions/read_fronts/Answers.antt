@@ -1,4 +1,4 @@
-use Rattle.std.proofs.Common.{ℕ, ◌+◌, ◌≡◌, ◌∙◌, ◌<◌, List, [], ◌∷◌, ◌++◌, length, map, take, ap, refl}
+use Rattle.std.proofs.Common.{ℕ, ◌+◌, ◌≡◌, ◌∙◌, List, [], ◌∷◌, ◌++◌, map, take, ap, refl}
 use Rattle.std.proofs.Common.{arith, sym}
 use Rattle.std.proofs.lemmas.List.{length-map, length-replicate}
 use Rattle.cfs_pmem.specs.Images.{IsImage, Seen, WordStep}
@@ -25,10 +25,10 @@ loop-k-preserved g c =
     let place : ℕ = c.args.first + c.loop-k.k in
     let front : c.read_front.new.words ≡ take g.row.N (row_at olds place) =
     c.in_ok-read_front.ensures.words
-        ∙ (ap (λ (n : ℕ). take n (row_at (map g.R.Region.seen c.loop-k.regions) place))
-        (length-replicate g.row.N 0)
-        ∙ ap (λ (seens : List (Seen WordStep)). take g.row.N (row_at seens place))
-        inv.leaves.same) in
+    ∙ (ap (λ (n : ℕ). take n (row_at (map g.R.Region.seen c.loop-k.regions) place))
+    (length-replicate g.row.N 0)
+    ∙ ap (λ (seens : List (Seen WordStep)). take g.row.N (row_at seens place))
+    inv.leaves.same) in
     record {
       leaves = leaves-after IsImage inv.leaves c.read_front.ensures.leaves;
       counts = c.in_ok-read_front.ensures.cause.passed ∙ inv.counts;
@@ -37,8 +37,12 @@ loop-k-preserved g c =
           ∙ (ap (λ (row : List ℕ).
           map (take g.row.N) (rows_from c.args.first c.loop-k.k olds) ++ row ∷ []) front
           ∙ sym (row-more (take g.row.N) olds c.args.first c.loop-k.k
-          (omega (arith, c.loop-k-test.true, c.requires.places,
-          length-map c.args.regions.now g.R.Region.seen)))));
+          (omega (
+            arith,
+            c.loop-k-test.true,
+            c.requires.places,
+            length-map c.args.regions.now g.R.Region.seen,
+          )))));
     }
 
 pub returns-clause-cause : goal.returns-clause-cause

@@ -1,4 +1,4 @@
-use Rattle.std.proofs.Common.{ℕ, ◌+◌, ◌≡◌, ◌∙◌, List, [], ◌∷◌, ◌++◌, length, map, ap, refl, arith, sym}
+use Rattle.std.proofs.Common.{ℕ, ◌+◌, ◌∙◌, List, [], ◌∷◌, ◌++◌, map, ap, refl, arith, sym}
 use Rattle.std.proofs.lemmas.List.{length-map}
 use Rattle.cfs_pmem.specs.Images.{IsImage, Seen, WordStep}
 use Rattle.cfs_store_words.specs.Rows.{first_word, row_at, rows_from}
@@ -31,8 +31,12 @@ loop-k-preserved g c =
           ∙ ap (λ (seens : List (Seen WordStep)). first_word (row_at seens (67 + c.loop-k.k)))
           inv.leaves.same)
           ∙ sym (row-more first_word olds 67 c.loop-k.k
-          (omega (arith, c.loop-k-test.true, c.requires.places,
-          length-map c.args.regions.now g.R.Region.seen)))));
+          (omega (
+            arith,
+            c.loop-k-test.true,
+            c.requires.places,
+            length-map c.args.regions.now g.R.Region.seen,
+          )))));
     }
 
 pub returns-clause-cause : goal.returns-clause-cause
