@@ -2,3 +2,4 @@ pub mod Calls
 pub mod Lists
 pub mod Both
 pub mod Stores
+pub mod Distinct

@@ -8,7 +8,8 @@ use Rattle.cfs_survey.specs.Faults.{damage_in}
 use Rattle.cfs_store_words.specs.declared.read_failed.ReadFailed.{ReadFailed}
 use Rattle.cfs_store_words.specs.declared.read_failed.ReadFailed.TheVariants as reads
 use Rattle.cfs_store_words.specs.declared.survey_failed.SurveyFailed.{SurveyFailed}
-use Rattle.cfs_store_words.specs.declared.survey_failed.SurveyFailed.TheVariants.{Failed, Damaged, NoMemory}
+use Rattle.cfs_store_words.specs.declared.survey_failed.SurveyFailed.TheVariants.{Failed, Damaged}
+use Rattle.cfs_store_words.specs.declared.survey_failed.SurveyFailed.TheVariants.{NoMemory}
 
 abbrev pub of_reading : ReadFailed → SurveyFailed
 of_reading (reads.Failed fault) = Failed fault

@@ -14,7 +14,11 @@ pub loop-at-preserved : goal.loop-at-preserved
 loop-at-preserved g c =
     let inv = c.loop-at.invariant in
     let olds : List (Seen WordStep) = map g.R.Region.seen c.args.regions.now in
-    let less : c.loop-at.at < length c.loop-at.words = omega (arith, c.loop-at-test.true, inv.size) in
+    let less : c.loop-at.at < length c.loop-at.words = omega (
+      arith,
+      c.loop-at-test.true,
+      inv.size,
+    ) in
     record {
       leaves = leaves-after IsImage inv.leaves c.read_word.ensures.leaves;
       counts = c.in_ok-words.ensures.cause.passed ∙ inv.counts;

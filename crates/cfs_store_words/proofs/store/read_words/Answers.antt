@@ -23,12 +23,13 @@ read_word-requires-clause-distinct g c =
 pub returns-in_err-selector-clause-leaves : goal.returns-in_err-selector-clause-leaves
 returns-in_err-selector-clause-leaves g c =
     regions-alone (map g.B.Block.seen c.args.blocks.now) c.requires.distinct
-    (c.read_word.ensures.leaves)
+    c.read_word.ensures.leaves
 
 pub returns-in_err-selector-clause-cause : goal.returns-in_err-selector-clause-cause
 returns-in_err-selector-clause-cause g c =
     cause-front _ _ (map g.B.Block.faults c.args.blocks.now) _
-    (stops-first _ _ c.in_err-selector.field-0.0 _ c.from_residual.ensures.1 c.in_err-selector.ensures.cause)
+    (stops-first _ _ c.in_err-selector.field-0.0 _ c.from_residual.ensures.1
+    c.in_err-selector.ensures.cause)
 
 pub returns-in_err-table-clause-leaves : goal.returns-in_err-table-clause-leaves
 returns-in_err-table-clause-leaves g c =
@@ -44,35 +45,43 @@ returns-in_err-table-clause-cause g c =
 pub returns-in_err-journal-clause-leaves : goal.returns-in_err-journal-clause-leaves
 returns-in_err-journal-clause-leaves g c =
     regions-alone (map g.B.Block.seen c.args.blocks.now) c.requires.distinct
-    (leaves-after IsImage (leaves-after IsImage c.read_word.ensures.leaves c.read_table.ensures.leaves) c.read_fronts.ensures.leaves)
+    (leaves-after IsImage (leaves-after IsImage c.read_word.ensures.leaves
+    c.read_table.ensures.leaves) c.read_fronts.ensures.leaves)
 
 pub returns-in_err-journal-clause-cause : goal.returns-in_err-journal-clause-cause
 returns-in_err-journal-clause-cause g c =
     cause-front _ _ (map g.B.Block.faults c.args.blocks.now) _
     (stops _ _ _ c.in_err-journal.field-0.0 _ c.from_residual-in_err-journal.ensures.1
-    (c.in_ok-table.ensures.cause.passed ∙ c.in_ok-selector.ensures.cause.passed) c.in_err-journal.ensures.cause)
+    (c.in_ok-table.ensures.cause.passed ∙ c.in_ok-selector.ensures.cause.passed)
+    c.in_err-journal.ensures.cause)
 
 pub returns-in_err-sizes-clause-leaves : goal.returns-in_err-sizes-clause-leaves
 returns-in_err-sizes-clause-leaves g c =
     regions-alone (map g.B.Block.seen c.args.blocks.now) c.requires.distinct
-    (leaves-after IsImage (leaves-after IsImage (leaves-after IsImage c.read_word.ensures.leaves c.read_table.ensures.leaves) c.read_fronts.ensures.leaves) c.read_sizes.ensures.leaves)
+    (leaves-after IsImage (leaves-after IsImage (leaves-after IsImage c.read_word.ensures.leaves
+    c.read_table.ensures.leaves) c.read_fronts.ensures.leaves) c.read_sizes.ensures.leaves)
 
 pub returns-in_err-sizes-clause-cause : goal.returns-in_err-sizes-clause-cause
 returns-in_err-sizes-clause-cause g c =
     cause-front _ _ (map g.B.Block.faults c.args.blocks.now) _
     (stops _ _ _ c.in_err-sizes.field-0.0 _ c.from_residual-in_err-sizes.ensures.1
-    (c.in_ok-journal.ensures.cause.passed ∙ (c.in_ok-table.ensures.cause.passed ∙ c.in_ok-selector.ensures.cause.passed)) c.in_err-sizes.ensures.cause)
+    (c.in_ok-journal.ensures.cause.passed ∙ (c.in_ok-table.ensures.cause.passed ∙
+    c.in_ok-selector.ensures.cause.passed)) c.in_err-sizes.ensures.cause)
 
 pub returns-in_err-slots-clause-leaves : goal.returns-in_err-slots-clause-leaves
 returns-in_err-slots-clause-leaves g c =
     regions-alone (map g.B.Block.seen c.args.blocks.now) c.requires.distinct
-    (leaves-after IsImage (leaves-after IsImage (leaves-after IsImage (leaves-after IsImage c.read_word.ensures.leaves c.read_table.ensures.leaves) c.read_fronts.ensures.leaves) c.read_sizes.ensures.leaves) c.read_fronts-2.ensures.leaves)
+    (leaves-after IsImage (leaves-after IsImage (leaves-after IsImage (leaves-after IsImage
+    c.read_word.ensures.leaves c.read_table.ensures.leaves) c.read_fronts.ensures.leaves)
+    c.read_sizes.ensures.leaves) c.read_fronts-2.ensures.leaves)
 
 pub returns-in_err-slots-clause-cause : goal.returns-in_err-slots-clause-cause
 returns-in_err-slots-clause-cause g c =
     cause-front _ _ (map g.B.Block.faults c.args.blocks.now) _
     (stops _ _ _ c.in_err-slots.field-0.0 _ c.from_residual-in_err-slots.ensures.1
-    (c.in_ok-sizes.ensures.cause.passed ∙ (c.in_ok-journal.ensures.cause.passed ∙ (c.in_ok-table.ensures.cause.passed ∙ c.in_ok-selector.ensures.cause.passed))) c.in_err-slots.ensures.cause)
+    (c.in_ok-sizes.ensures.cause.passed ∙ (c.in_ok-journal.ensures.cause.passed ∙
+    (c.in_ok-table.ensures.cause.passed ∙ c.in_ok-selector.ensures.cause.passed)))
+    c.in_err-slots.ensures.cause)
 
 pub read_table-requires-clause-within : goal.read_table-requires-clause-within
 read_table-requires-clause-within g c =
@@ -94,7 +103,8 @@ read_fronts-requires g c =
           λ k less. record-after c.requires.store leaves.same k less,
           (
             omega arith,
-            subst (λ (seens : List (Seen WordStep)). AreDistinct (all_devices seens)) (sym leaves.same)
+            subst (λ (seens : List (Seen WordStep)). AreDistinct (all_devices seens)) (sym
+                leaves.same)
                 leaves.moments.distinct,
           ),
         ),
@@ -103,12 +113,15 @@ read_fronts-requires g c =
 
 pub read_sizes-requires-clause-within : goal.read_sizes-requires-clause-within
 read_sizes-requires-clause-within g c =
-    let leaves = leaves-after IsImage (leaves-after IsImage c.read_word.ensures.leaves c.read_table.ensures.leaves) c.read_fronts.ensures.leaves in
+    let leaves = leaves-after IsImage (leaves-after IsImage c.read_word.ensures.leaves
+    c.read_table.ensures.leaves) c.read_fronts.ensures.leaves in
     λ k less. size-after c.requires.store leaves.same k less
 
 pub read_fronts-requires-2 : goal.read_fronts-requires-2
 read_fronts-requires-2 g c =
-    let leaves = leaves-after IsImage (leaves-after IsImage (leaves-after IsImage c.read_word.ensures.leaves c.read_table.ensures.leaves) c.read_fronts.ensures.leaves) c.read_sizes.ensures.leaves in
+    let leaves = leaves-after IsImage (leaves-after IsImage (leaves-after IsImage
+    c.read_word.ensures.leaves c.read_table.ensures.leaves) c.read_fronts.ensures.leaves)
+    c.read_sizes.ensures.leaves in
     let many : length c.read_sizes.new.regions ≡ length (map g.R.Region.seen c.args.regions.now) =
     sym (length-map c.read_sizes.new.regions g.R.Region.seen)
     ∙ ap (λ (seens : List (Seen WordStep)). length seens) leaves.same in (
@@ -119,7 +132,8 @@ read_fronts-requires-2 g c =
           λ k less. slot-after c.requires.store leaves.same k (omega (arith, less, many)),
           (
             omega arith,
-            subst (λ (seens : List (Seen WordStep)). AreDistinct (all_devices seens)) (sym leaves.same)
+            subst (λ (seens : List (Seen WordStep)). AreDistinct (all_devices seens)) (sym
+                leaves.same)
                 leaves.moments.distinct,
           ),
         ),
@@ -135,13 +149,17 @@ read_tags-requires g c = record {
 pub returns-in_err-tags-clause-leaves : goal.returns-in_err-tags-clause-leaves
 returns-in_err-tags-clause-leaves g c =
     blocks-behind c.requires.distinct
-    (leaves-after IsImage (leaves-after IsImage (leaves-after IsImage (leaves-after IsImage c.read_word.ensures.leaves c.read_table.ensures.leaves) c.read_fronts.ensures.leaves) c.read_sizes.ensures.leaves) c.read_fronts-2.ensures.leaves)
+    (leaves-after IsImage (leaves-after IsImage (leaves-after IsImage (leaves-after IsImage
+    c.read_word.ensures.leaves c.read_table.ensures.leaves) c.read_fronts.ensures.leaves)
+    c.read_sizes.ensures.leaves) c.read_fronts-2.ensures.leaves)
     c.read_tags.ensures.leaves
 
 pub returns-in_err-tags-clause-cause : goal.returns-in_err-tags-clause-cause
 returns-in_err-tags-clause-cause g c =
     stops-behind _ _ _ _ c.in_err-tags.field-0.0 _ c.from_residual-in_err-tags.ensures.1
-    (c.in_ok-slots.ensures.cause.passed ∙ (c.in_ok-sizes.ensures.cause.passed ∙ (c.in_ok-journal.ensures.cause.passed ∙ (c.in_ok-table.ensures.cause.passed ∙ c.in_ok-selector.ensures.cause.passed))))
+    (c.in_ok-slots.ensures.cause.passed ∙ (c.in_ok-sizes.ensures.cause.passed ∙
+    (c.in_ok-journal.ensures.cause.passed ∙ (c.in_ok-table.ensures.cause.passed ∙
+    c.in_ok-selector.ensures.cause.passed))))
     c.in_err-tags.ensures.cause
 
 pub returns-clause-read : goal.returns-clause-read
@@ -149,8 +167,11 @@ returns-clause-read g c =
     let olds : List (Seen WordStep) = map g.R.Region.seen c.args.regions.now in
     let selector : c.in_ok-selector.selector ≡ selector_held olds =
     c.in_ok-selector.ensures.word in
-    let third = leaves-after IsImage (leaves-after IsImage c.read_word.ensures.leaves c.read_table.ensures.leaves) c.read_fronts.ensures.leaves in
-    let fourth = leaves-after IsImage (leaves-after IsImage (leaves-after IsImage c.read_word.ensures.leaves c.read_table.ensures.leaves) c.read_fronts.ensures.leaves) c.read_sizes.ensures.leaves in
+    let third = leaves-after IsImage (leaves-after IsImage c.read_word.ensures.leaves
+    c.read_table.ensures.leaves) c.read_fronts.ensures.leaves in
+    let fourth = leaves-after IsImage (leaves-after IsImage (leaves-after IsImage
+    c.read_word.ensures.leaves c.read_table.ensures.leaves) c.read_fronts.ensures.leaves)
+    c.read_sizes.ensures.leaves in
     let many : length c.read_sizes.new.regions ≡ length olds =
     sym (length-map c.read_sizes.new.regions g.R.Region.seen)
     ∙ ap (λ (seens : List (Seen WordStep)). length seens) fourth.same in
@@ -176,11 +197,15 @@ returns-clause-whole g c =
 pub returns-clause-leaves : goal.returns-clause-leaves
 returns-clause-leaves g c =
     blocks-behind c.requires.distinct
-    (leaves-after IsImage (leaves-after IsImage (leaves-after IsImage (leaves-after IsImage c.read_word.ensures.leaves c.read_table.ensures.leaves) c.read_fronts.ensures.leaves) c.read_sizes.ensures.leaves) c.read_fronts-2.ensures.leaves)
+    (leaves-after IsImage (leaves-after IsImage (leaves-after IsImage (leaves-after IsImage
+    c.read_word.ensures.leaves c.read_table.ensures.leaves) c.read_fronts.ensures.leaves)
+    c.read_sizes.ensures.leaves) c.read_fronts-2.ensures.leaves)
     c.read_tags.ensures.leaves
 
 pub returns-clause-cause : goal.returns-clause-cause
 returns-clause-cause g c =
     both-well _ _ _ _ _
-    (c.in_ok-slots.ensures.cause.passed ∙ (c.in_ok-sizes.ensures.cause.passed ∙ (c.in_ok-journal.ensures.cause.passed ∙ (c.in_ok-table.ensures.cause.passed ∙ c.in_ok-selector.ensures.cause.passed))))
+    (c.in_ok-slots.ensures.cause.passed ∙ (c.in_ok-sizes.ensures.cause.passed ∙
+    (c.in_ok-journal.ensures.cause.passed ∙ (c.in_ok-table.ensures.cause.passed ∙
+    c.in_ok-selector.ensures.cause.passed))))
     c.in_ok-tags.ensures.cause.passed
