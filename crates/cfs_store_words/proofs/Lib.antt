@@ -1,0 +1,5 @@
+pub mod Calls
+pub mod Lists
+pub mod Both
+pub mod Stores
+pub mod Distinct
