@@ -1,6 +1,8 @@
 -- Lists that grow at their end.
-use Rattle.std.proofs.Common.{◌≡◌, ◌∙◌, refl, List, [], ◌∷◌, ◌++◌, map, reverse, sym, ap, append_assoc}
+use Rattle.std.proofs.Common.{subst, ◌≡◌, ◌∙◌, refl, List, [], ◌∷◌, ◌++◌, map, reverse, sym, ap, append_assoc}
 use Rattle.std.specs.List.{flat_map}
+use Rattle.std.specs.List.Sorted.{IsPermutation}
+use Rattle.std.proofs.lemmas.List.Sorted.{IsPermutation-map}
 use Rattle.std.proofs.lemmas.Grind.{flat_map-append}
 use Rattle.std.proofs.lemmas.List.{append-nil, flat_map_more, map-append, reverse-append, reverse-reverse}
 
@@ -62,3 +64,9 @@ pub all_turned : {X Y A : Type 0} (f : Y → A) (t : X → Y) (old : List A) (be
 all_turned f t old before now is =
     ap (λ l. old ++ map (λ x. f (t x)) l) (ap (λ l. reverse l) is ∙ reverse-reverse before)
     ∙ ap (λ l. old ++ l) (map_in f t before)
+
+-- what is told of lists that are the same but for the order
+pub told_permutation : {X A : Type 0} (f : X → A) (all : List A) (before now : List X)
+    → map f before ≡ all → IsPermutation before now → IsPermutation all (map f now)
+told_permutation f all before now is same =
+    subst (λ l. IsPermutation l (map f now)) is (IsPermutation-map f before now same)

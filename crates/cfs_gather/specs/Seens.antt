@@ -4,6 +4,7 @@ use Rattle.std.specs.Prelude.{List, [], ◌∷◌, ◌++◌, Option, Some, None,
 use Rattle.std.specs.List.{flat_map}
 use Rattle.cfs_pmem.specs.Images.{Seen, WordStep}
 use Rattle.cfs_block.specs.BlockImages.{BlockStep}
+use Rattle.cfs_block.specs.declared.free_block.FreeBlock.{FreeBlock}
 use Rattle.cfs_job.specs.Views.{JobView, TileView}
 use Rattle.cfs_tracker.specs.declared.cell.Cell.{Cell}
 use Rattle.cfs_tracker.specs.declared.cell.Cell.TheVariants as kinds
@@ -98,3 +99,18 @@ blocks_in_active view = blocks_in_state view.state ++ flat_map blocks_in_job vie
 
 abbrev pub seens_in_staged : {R : Type 0} {g : _} → (R → Seen WordStep) → Staged R g → Seens
 seens_in_staged see staged = map see (of_staged staged ∷ tails_of_staged staged)
+
+-- those of all parts: of the kernel's part, of the size words that no file has, of the staged requests
+-- and of the inodes in use; and of the blocks that are free and of the inodes
+
+abbrev pub seens_in_parts : {R : Type 0} {g : _} → (R → Seen WordStep) → NsState R g → List R
+    → List (Staged R g) → List ActiveView → Seens
+seens_in_parts see kernel sizes requests inodes =
+    seens_in_kernel see kernel ++ (map see sizes
+    ++ (flat_map (λ staged. seens_in_staged see staged) requests
+    ++ flat_map seens_in_active inodes))
+
+abbrev pub blocks_in_parts : {B : Type 0} {g : _} → (B → Seen BlockStep) → List (FreeBlock B g)
+    → List ActiveView → List (Seen BlockStep)
+blocks_in_parts see free inodes =
+    map (λ one. see one.block) free ++ flat_map blocks_in_active inodes

@@ -1,12 +1,15 @@
 //! All parts of a store in use are put back into a medium, word for word.
 #![tactic(auto)]
 
+mod all;
 mod blocks;
 mod gathered;
 mod kernel;
+mod medium;
 mod regions;
 mod slots;
 
+pub use all::gather;
 pub use blocks::{add_block, add_cell, add_cells, add_lent, add_pool};
 pub use gathered::Gathered;
 pub use kernel::{add_home, add_kernel, add_queues, add_tree};

@@ -1,5 +1,4 @@
 use Rattle.cfs_vec.specs.Items.{items_of}
-use Rattle.cfs_slot.specs.Regions.{of_slot}
 use Rattle.cfs_slot.specs.declared.slot.Slot.{Slot}
 use Rattle.std.proofs.Common.{map}
 use Rattle.cfs_gather.proofs.ListLemmas.{all_turned}
