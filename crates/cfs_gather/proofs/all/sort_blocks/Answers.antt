@@ -1,0 +1,9 @@
+use Rattle.std.proofs.Common.{rules}
+use Rattle.std.proofs.lemmas.List.Sorted.{IsNonDecreasingBy-from_sort_by_key}
+use Rattle.cfs_gather.specs.Gathered.{block_device}
+use Rattle.cfs_gather.proofs.all.sort_blocks.Goals as goal
+
+pub returns-clause-ascending : goal.returns-clause-ascending
+returns-clause-ascending c =
+    IsNonDecreasingBy-from_sort_by_key block_device _ c.sort_unstable_by_key.ensures.sorted
+    (search rules)
