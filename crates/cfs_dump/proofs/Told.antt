@@ -1,0 +1,2 @@
+-- draft
+use Rattle.cfs_dump.proofs.Orders.{owned-in_order}
