@@ -1,9 +1,9 @@
 -- The blocks of a file, one after another.
-use Rattle.std.proofs.Common.{◌≡◌, ◌≢◌, ◌∙◌, ◌==◌, ℕ, zero, suc, ◌+◌, ◌-◌, ◌*◌, ◌/◌, ◌%◌, ◌<◌, ◌≤◌, Bool, true, false, nat_eq, nat_lt, cond}
-use Rattle.std.proofs.Common.{if◌then◌else◌, Option, Some, None, List, [], ◌∷◌, ◌++◌, length, take}
-use Rattle.std.proofs.Common.{drop, map, min, get_or, replicate, refl, sym, ap, subst, arith}
+use Rattle.std.proofs.Common.{◌≡◌, ◌∙◌, ◌==◌, ℕ, zero, suc, ◌+◌, ◌-◌, ◌*◌, ◌/◌, ◌%◌, ◌<◌, ◌≤◌, Bool, true, false, nat_eq, nat_lt}
+use Rattle.std.proofs.Common.{if◌then◌else◌, Some, None, List, ◌∷◌, ◌++◌, length, take}
+use Rattle.std.proofs.Common.{drop, map, min, replicate, refl, sym, ap, arith}
 use Rattle.std.proofs.lemmas.Bool.Decides.{nat_tests}
-use Rattle.std.proofs.lemmas.List.{get_or-drop, get_or-replicate, get_or-take, length-drop}
+use Rattle.std.proofs.lemmas.List.{get_or-replicate, get_or-take, length-drop}
 use Rattle.std.proofs.lemmas.List.{length-replicate, length-take-le, map-append}
 use Rattle.std.proofs.lemmas.List.FromFn.{fill_by_all, get_or-map-range_with_len}
 use Rattle.std.proofs.lemmas.List.FromFn.{length-map-range_with_len}
@@ -11,8 +11,6 @@ use Rattle.std.specs.HashMap.{get}
 use Rattle.std.specs.List.{range_with_len}
 use Rattle.std.specs.Option.{option_map}
 use Rattle.std.specs.Prelude.{find}
-use Rattle.cfs_block.specs.BlockImages.{Content}
-use Rattle.cfs_image.specs.Image.{word_at}
 use Rattle.cfs_medium.specs.Store.{block_for, byte_in, byte_of, tag_of}
 use Rattle.cfs_survey.specs.Mapped.{BlockMap}
 use Rattle.cfs_dump.specs.Reads.{FindsBlocks, front_of}

@@ -1,19 +1,13 @@
 -- The request of a live entry, as the words before its payload tell it.
-use Rattle.std.proofs.Common.{◌≡◌, ◌≢◌, ◌∙◌, ◌==◌, ℕ, suc, ◌+◌, ◌*◌, ◌/◌, ◌%◌, ◌^◌, ◌<◌, Bool, true, false}
-use Rattle.std.proofs.Common.{if◌then◌else◌, Option, Some, None, List, [], ◌∷◌, ◌++◌, length, take}
-use Rattle.std.proofs.Common.{drop, get_or, refl, sym, ap, subst, arith}
-use Rattle.std.proofs.Math.Seq.{drop-cons}
+use Rattle.std.proofs.Common.{◌≡◌, ◌∙◌, ◌==◌, ℕ, ◌+◌, ◌*◌, ◌/◌, ◌%◌, ◌^◌, ◌<◌, Bool, true, false}
+use Rattle.std.proofs.Common.{if◌then◌else◌, List, [], ◌∷◌, take}
+use Rattle.std.proofs.Common.{get_or, sym, ap, arith}
 use Rattle.std.proofs.lemmas.Bool.Decides.{nat_tests}
-use Rattle.std.specs.List.{cons_option, filter_map, flat_map}
-use Rattle.cfs_file.specs.declared.request.Request.{Request}
+use Rattle.std.specs.List.{flat_map}
 use Rattle.cfs_file.specs.declared.request.Request.TheVariants.{Truncate, Write}
-use Rattle.cfs_file.specs.File.{effect}
 use Rattle.cfs_image.specs.Image.{word_at}
-use Rattle.cfs_medium.specs.Store.{taken_through}
 use Rattle.cfs_slot.specs.Words.{area_of, count_of, kind_of, offset_of, payload_of, request_of, tails_of}
-use Rattle.cfs_slot.specs.Tails.{tails_at}
-use Rattle.cfs_survey.specs.declared.live_entry.LiveEntry.{LiveEntry}
-use Rattle.cfs_dump.specs.Reads.{heads_in, request_in, tails_in}
+use Rattle.cfs_dump.specs.Reads.{heads_in}
 use Rattle.cfs_dump.specs.Stores.{slots_in}
 use Rattle.cfs_dump.proofs.Areas.{same_head}
 

@@ -1,7 +1,7 @@
 -- The map of tags finds the blocks of a file.
-use Rattle.std.proofs.Common.{◌≡◌, ◌∙◌, ◌==◌, ℕ, zero, suc, ◌+◌, ◌*◌, ◌/◌, ◌<◌, ◌≤◌, Bool, true}
-use Rattle.std.proofs.Common.{false, nat_eq, nat_lt, if◌then◌else◌, Option, Some, None, List, [], ◌∷◌}
-use Rattle.std.proofs.Common.{length, get_or, map, refl, sym, ap, subst, arith}
+use Rattle.std.proofs.Common.{◌≡◌, ◌∙◌, ◌==◌, ℕ, zero, suc, ◌+◌, ◌/◌, ◌<◌, ◌≤◌, Bool, true}
+use Rattle.std.proofs.Common.{false, nat_eq, nat_lt, if◌then◌else◌, Some, None, List}
+use Rattle.std.proofs.Common.{length, get_or, map, refl, sym, ap, arith}
 use Rattle.std.specs.Prelude.{find}
 use Rattle.std.proofs.lemmas.Bool.Decides.{nat_tests}
 use Rattle.std.proofs.lemmas.List.FromFn.{get_or-map-range_with_len, length-map-range_with_len}
@@ -13,7 +13,7 @@ use Rattle.cfs_dir.specs.declared.node.Node.{Node}
 use Rattle.cfs_fsck.specs.Images.{tags_at}
 use Rattle.cfs_image.specs.Image.{word_at}
 use Rattle.cfs_image.specs.Layout.{block_at}
-use Rattle.cfs_medium.specs.Store.{block_for, tag_of}
+use Rattle.cfs_medium.specs.Store.{tag_of}
 use Rattle.cfs_survey.specs.Mapped.{BlockMap, IsBlockMap}
 use Rattle.cfs_survey.specs.Tags.{block_of, is_file}
 use Rattle.cfs_dump.specs.Reads.{FindsBlocks}

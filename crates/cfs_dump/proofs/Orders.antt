@@ -1,12 +1,11 @@
 -- The live entries of one file, among those of all files by inode number and gate, are its live
 -- entries by gate.
-use Rattle.std.proofs.Common.{◌≡◌, ◌≢◌, ◌∙◌, ◌==◌, ◌&&◌, ◌||◌, inl, inr, ℕ, zero, suc, ◌+◌, ◌*◌}
-use Rattle.std.proofs.Common.{◌<◌, ◌≤◌, Bool, true, false, not, nat_lt, nat_le, if◌then◌else◌}
-use Rattle.std.proofs.Common.{Option, Some, None, List, [], ◌∷◌, length, get_or, refl, sym, ap}
-use Rattle.std.proofs.Common.{subst, arith}
+use Rattle.std.proofs.Common.{◌≡◌, ◌≢◌, ◌∙◌, ◌==◌, ℕ}
+use Rattle.std.proofs.Common.{◌<◌, ◌≤◌, Bool, true, false, nat_le, if◌then◌else◌}
+use Rattle.std.proofs.Common.{Option, Some, None, List, [], ◌∷◌, refl, sym, ap}
+use Rattle.std.proofs.Common.{arith}
 use Rattle.std.proofs.lemmas.Bool.Decides.{nat_tests}
-use Rattle.std.specs.List.{cons_option, filter_map, range_with_len}
-use Rattle.cfs_dir.specs.declared.node.Node.{Node}
+use Rattle.std.specs.List.{cons_option, filter_map}
 use Rattle.cfs_file.specs.declared.request.Request.{Request}
 use Rattle.cfs_medium.specs.Store.{by_gate, put_by_gate}
 use Rattle.cfs_survey.specs.declared.live_entry.LiveEntry.{LiveEntry}

@@ -31,7 +31,8 @@ walk-in : (nodes : List Node) (credential : Credential) (from : Node) (path : Li
 walk-in nodes credential from [] place node among ends looked =
     let same : from ≡ node = last place ends looked in subst (In nodes) same among
   where
-    last : (place : Place) → Ok (Root from) ≡ Ok place → looked_up_at place ≡ Ok node →
+    last : (place : Place) → ◌≡◌ {A = Result Place Posix} (Ok (Root from)) (Ok place) →
+        looked_up_at place ≡ Ok node →
         from ≡ node
     last (Root root) ends looked = cc
     last (Entry directory name found) ends looked = absurd (cc)

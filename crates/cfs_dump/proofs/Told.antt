@@ -1,5 +1,5 @@
 -- What the words of a sound image tell of its slots, its sizes and its blocks.
-use Rattle.std.proofs.Common.{◌≡◌, ◌∙◌, ℕ, ◌+◌, ◌*◌, ◌<◌, ◌≤◌, List, length, get_or, sym, ap, arith}
+use Rattle.std.proofs.Common.{◌≡◌, ◌∙◌, ℕ, ◌+◌, ◌*◌, ◌<◌, List, length, get_or, ap, arith}
 use Rattle.cfs_fsck.specs.Images.{image_words, tags_at, words_at}
 use Rattle.cfs_image.specs.Checks.{IsSound}
 use Rattle.cfs_image.specs.Image.{word_at}

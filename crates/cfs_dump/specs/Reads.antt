@@ -35,8 +35,10 @@ tails_in bytes slot tails =
 abbrev pub request_in : List ℕ → ℕ → LiveEntry → Option (ℕ × Request)
 request_in bytes ino entry =
     if entry.ino == ino
-    then Some (entry.gate,
-    request_of (get_or (slots_in bytes) entry.slot []) (tails_at (slots_in bytes) entry.slot))
+    then Some (
+      entry.gate,
+      request_of (get_or (slots_in bytes) entry.slot []) (tails_at (slots_in bytes) entry.slot),
+    )
     else None
 
 -- the first bytes of a block, or zeros where there is none

@@ -36,12 +36,7 @@ fn push_area(payload: &mut Vec<u8>, bytes: &[u8], slot: u32) -> Result<(), NoMem
 }
 
 /// The same, if the slot is a tail.
-fn push_tail(
-    payload: &mut Vec<u8>,
-    bytes: &[u8],
-    slot: u32,
-    is_tail: bool,
-) -> Result<(), NoMemory>
+fn push_tail(payload: &mut Vec<u8>, bytes: &[u8], slot: u32, is_tail: bool) -> Result<(), NoMemory>
     requires image { HasSlots bytes.now }
     requires slot { slot < 16 * word_at bytes.now 24 }
     ensures { OnOk result (payload.new.items ≡ payload.old.items
