@@ -90,6 +90,7 @@ fn staged_in(
     slots: FixedVec<Slot<MemRegion>, QUEUE_SLOTS>,
     meter: &mut Meter,
     request: &Request,
+    grant: u64,
 ) -> Option<Staged<MemRegion>>
     requires chained { IsChained request.now }
     requires count { length (of_slots slots) ≡ slots_for (length (staged_payload request.now)) }
@@ -102,7 +103,7 @@ fn staged_in(
     ensures sure { IfSome result (λ staged. IsSureFor request.now
         (words_seen (of_staged staged))) }
 {
-    match stage_chain(slots, meter, INO, request, 7) {
+    match stage_chain(slots, meter, INO, request, grant) {
         Ok(staged) => Some(staged),
         Err(_) => None,
     }
@@ -114,6 +115,7 @@ pub(crate) fn staged(
     meter: &mut Meter,
     queue: u32,
     request: &Request,
+    grant: u64,
 ) -> Option<Staged<MemRegion>>
     ensures change { IfSome result (λ staged. is_change request.now ≡ true) }
     ensures file { IfSome result (λ staged. ino_of (words_of (words_seen (of_staged staged))) ≡ 2) }
@@ -129,7 +131,7 @@ pub(crate) fn staged(
     if !is_chained(request) || slots.len() != slots_for(request) || !are_chain(&slots) {
         return None;
     }
-    staged_in(slots, meter, request)
+    staged_in(slots, meter, request, grant)
 }
 
 /// So many bytes, all of them this one.

@@ -1,55 +1,66 @@
+use crate::cases::CASES;
 use crate::rig::Rig;
+use crate::stops::{BEGUN, STOPS, Stops};
+use cfs_file::NoMemory;
+use std::alloc::Global;
 use std::test::Fail;
 
-/// Two appends, and then what carrying them out gives, the first one first.
-fn two_appends(rig: &mut Rig) -> Result<[(u64, u64); 4], Fail> {
-    let first = rig.append(100, 1)?;
-    let second = rig.append(50, 2)?;
-    let done = (rig.carry_out(1)? as u64, rig.carry_out(2)? as u64);
-    let length = rig.length();
-    Ok([first, second, done, (length, 0)])
+/// The lines of a case, each with what its command answers now.
+fn played(alloc: Global, case: &str) -> Result<String, NoMemory> {
+    let mut rig = Rig::new(alloc)?;
+    let mut text = String::new(alloc);
+    for line in case.lines() {
+        let (command, _) = line.split_once(" -> ").unwrap_or((line, ""));
+        let answer = rig.carry_out(command)?;
+        write!(text, "{command} -> {answer}\n")?;
+    }
+    Ok(text)
 }
 
-// Two appends take the places 1 and 2, and each gives its slot back.
 #[test]
-fn appends_stand_behind_each_other(rt: HostRuntime) -> Result<(), Fail> {
-    let mut rig = Rig::new(rt.alloc(), 2)?;
-    let said = two_appends(&mut rig)?;
-    assert_eq!(rt; said, [(1, 0), (2, 0), (1, 1), (150, 0)]);
+fn each_command_answers_as_its_line_says(rt: HostRuntime) -> Result<(), Fail> {
+    for case in CASES {
+        let text = played(rt.alloc(), case)?;
+        assert_eq!(rt; text.as_str(), case);
+    }
     Ok(())
 }
 
-/// A write and one that overlaps it, of which the later one is tried first.
-fn overlapping(rig: &mut Rig) -> Result<[(u64, u64); 4], Fail> {
-    let first = rig.write(0, 100, 1)?;
-    let second = rig.write(50, 100, 2)?;
-    let early = rig.carry_out(2)? as u64;
-    let done = (rig.carry_out(1)? as u64, rig.carry_out(2)? as u64);
-    Ok([first, second, (early, rig.length()), done])
-}
-
-// The later of two writes waits for the earlier one, which it overlaps.
-#[test]
-fn overlapping_writes_come_in_order(rt: HostRuntime) -> Result<(), Fail> {
-    let mut rig = Rig::new(rt.alloc(), 1)?;
-    let said = overlapping(&mut rig)?;
-    assert_eq!(rt; said, [(1, 0), (2, 0), (0, 150), (1, 1)]);
+/// Carries out the commands of a script, one a line.
+fn carry_out_all(rig: &mut Rig, script: &str) -> Result<(), NoMemory> {
+    for command in script.lines() {
+        let _ = rig.carry_out(command)?;
+    }
     Ok(())
 }
 
-/// A write and one that covers it; the first is skipped.
-fn covering(rig: &mut Rig) -> Result<[(u64, u64); 3], Fail> {
-    let first = rig.write(10, 20, 1)?;
-    let second = rig.write(0, 100, 2)?;
-    let skipped = rig.skip(1) as u64;
-    Ok([first, second, (skipped, rig.carry_out(2)? as u64)])
+/// The file that a crash of a pick leaves where the power stops at a writing step of a script.
+fn left(alloc: Global, script: &str, step: u64, pick: u64) -> Result<String, NoMemory> {
+    let mut rig = Rig::new(alloc)?;
+    carry_out_all(&mut rig, BEGUN)?;
+    let _ = rig.stop(step)?;
+    carry_out_all(&mut rig, script)?;
+    rig.crash(pick)
 }
 
-// A write that covers another makes a no-op of it, which is skipped.
+/// The lines of what is left, as they are now.
+fn left_now(alloc: Global, stops: &Stops) -> Result<String, NoMemory> {
+    let mut text = String::new(alloc);
+    let mut step: u64 = 0;
+    for _ in stops.left.lines() {
+        step = step.saturating_add(1);
+        let lost = left(alloc, stops.script, step, 0)?;
+        let kept = left(alloc, stops.script, step, 1)?;
+        write!(text, "{step} -> {lost} | {kept}\n")?;
+    }
+    Ok(text)
+}
+
 #[test]
-fn covered_writes_are_skipped(rt: HostRuntime) -> Result<(), Fail> {
-    let mut rig = Rig::new(rt.alloc(), 1)?;
-    let said = covering(&mut rig)?;
-    assert_eq!(rt; said, [(1, 0), (2, 1), (1, 1)]);
+fn a_stop_leaves_the_file_before_or_after_a_change(rt: HostRuntime) -> Result<(), Fail> {
+    for stops in STOPS {
+        let text = left_now(rt.alloc(), &stops)?;
+        assert_eq!(rt; text.as_str(), stops.left);
+    }
     Ok(())
 }

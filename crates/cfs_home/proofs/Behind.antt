@@ -4,7 +4,7 @@ use Rattle.std.proofs.Common.{if◌then◌else◌, List, [], length, drop, get_o
 use Rattle.std.proofs.Common.{ap}
 use Rattle.std.proofs.lemmas.Bool.Decides.{nat_tests}
 use Rattle.std.proofs.lemmas.List.{drop-set-add, drop-set-lt, get_or-drop, get_or-set_same}
-use Rattle.std.proofs.lemmas.List.{set-get_or, set-set}
+use Rattle.std.proofs.lemmas.List.{set-get_or, set-set, take-set-le}
 use Rattle.cfs_core.proofs.Order.{same_or_not}
 use Rattle.cfs_pmem.specs.Images.{Seen, WordStep, IsImage, kept, words_of, wrote}
 use Rattle.cfs_pmem.specs.Objects.{IsEachImage, IsImageBut, seen_at}
@@ -83,6 +83,8 @@ sizes-set node size disk old new below within some have is words each =
 
     from : Puts (67 + node) size disk old words → AreWordsOf (with_size node size disk) words
     from put = record {
+      front =
+          sym (take-set-le 67 words (67 + node) was (omega arith)) ∙ put.before.front;
       sizes = sizes put;
       slots =
           sym (drop-set-lt 323 words (67 + node) was (omega arith)) ∙ put.before.slots;
@@ -124,6 +126,8 @@ gates-closed at disk old new within have is words each =
     from : Puts (323 + at) 0 disk old words →
         AreWordsOf (record disk { slots = shut at disk.slots }) words
     from put = record {
+      front =
+          sym (take-set-le 67 words (323 + at) was (omega arith)) ∙ put.before.front;
       sizes = λ node.
           sym (size-other words (323 + at) was node (λ less same. omega arith))
           ∙ put.before.sizes node;

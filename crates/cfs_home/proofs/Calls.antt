@@ -1,11 +1,12 @@
 -- Calls of a mount on the devices: at each moment a crash leaves the files.
 use Rattle.std.proofs.Common.{◌≡◌, ◌≢◌, ◌⊎◌, ◌∙◌, inl, inr, ℕ, zero, suc, ◌+◌, ◌*◌, ◌/◌, ◌%◌, ◌<◌}
 use Rattle.std.proofs.Common.{◌≤◌, nat_lt, Bool, true, false, if◌then◌else◌, List, [], ◌∷◌, length}
-use Rattle.std.proofs.Common.{drop, get_or, set, arith, refl, sym, ap, subst}
+use Rattle.std.proofs.Common.{take, drop, get_or, set, arith, refl, sym, ap, subst}
 use Rattle.std.proofs.lemmas.Bool.{cases_lt}
 use Rattle.std.proofs.lemmas.Bool.Decides.{nat_tests}
 use Rattle.std.proofs.lemmas.List.{drop-set-add, drop-set-lt, get_or-drop, get_or-set_other}
 use Rattle.std.proofs.lemmas.List.{get_or-set_same, length-set, set-get_or, set-set, set_past}
+use Rattle.std.proofs.lemmas.List.{take-set-le}
 use Rattle.cfs_file.specs.declared.sizes.TheConstants.{BLOCK_LEN, FILE_BLOCKS}
 use Rattle.cfs_file.specs.Span.{Touches}
 use Rattle.cfs_core.proofs.Order.{same_or_not}
@@ -24,7 +25,7 @@ use Rattle.cfs_home.specs.Calls.{AreWordsOf, disk_of, size_in}
 use Rattle.cfs_home.specs.Disks.{AllStay, BlocksBeside, ClosesSlot, Disk, File, SetsSize, shut}
 use Rattle.cfs_home.specs.Laws.{ClosesMayStop, PiecesAreBeside, SizesMayStop, TagsMayStop}
 use Rattle.cfs_home.specs.Laws.{WritesMayStop}
-use Rattle.cfs_home.proofs.Disks.{same-stays}
+use Rattle.cfs_home.proofs.Disks.{all-same}
 
 -- ---- regions and blocks, of which one list stays
 
@@ -189,8 +190,8 @@ size-own words node image below within =
 unchanged : (files : List File) (start first : Disk) (images : DeviceImages) →
     AllStay files start first → AreWordsOf first images.words → images.contents ≡ first.blocks →
     AllStay files start (disk_of images)
-unchanged files start first images stay words contents file among =
-    same-stays file start first (disk_of images) (stay file among) words.sizes words.slots contents
+unchanged files start first images stay words contents =
+    all-same files start first (disk_of images) stay words.front words.sizes words.slots contents
 
 -- the size word is set
 size-set : (node size : ℕ) (first : Disk) (firsts : List (List ℕ)) (images : DeviceImages) →
@@ -199,6 +200,9 @@ size-set : (node size : ℕ) (first : Disk) (firsts : List (List ℕ)) (images :
     images.words ≡ set firsts (67 + node) (set (get_or firsts (67 + node) []) 0 size) →
     SetsSize node size first (disk_of images)
 size-set node size first firsts images below within some are contents is = record {
+  front =
+      ap (λ (words : List (List ℕ)). take 67 words) is
+      ∙ (take-set-le 67 firsts (67 + node) image (omega arith) ∙ are.front);
   own =
       ap (λ (words : List (List ℕ)). size_in words node) is
       ∙ (size-own firsts node image below within
@@ -222,6 +226,9 @@ gate-set : (at : ℕ) (first : Disk) (firsts : List (List ℕ)) (images : Device
     images.words ≡ set firsts (323 + at) (set (get_or firsts (323 + at) []) 0 0) →
     ClosesSlot at first (disk_of images)
 gate-set at first firsts images are contents is = record {
+  front =
+      ap (λ (words : List (List ℕ)). take 67 words) is
+      ∙ (take-set-le 67 firsts (323 + at) image (omega arith) ∙ are.front);
   sizes = λ node.
       ap (λ (words : List (List ℕ)). size_in words node) is
       ∙ (size-other firsts (323 + at) image node (λ less same. omega arith) ∙ are.sizes node);
@@ -244,7 +251,7 @@ writes-stop files file request start first regions old new _ _ keeps words disti
     on-blocks (λ (images : DeviceImages). AllStay files start (disk_of images)) regions distinct
     (λ images regions_are beside. let are = words images.words regions_are in
     keeps (disk_of images)
-    (record { sizes = are.sizes; slots = are.slots; blocks = beside }))
+    (record { front = are.front; sizes = are.sizes; slots = are.slots; blocks = beside }))
     moments
 
 pub sizes-stop : SizesMayStop
@@ -314,6 +321,7 @@ tags-stop files at tag start first regions old new _ _ keeps stay words contents
               ∙ (ap (λ (c : Content). set first.blocks at c) (sym here)
               ∙ set-get_or first.blocks at (record { tag = 0; bytes = [] })))
           | inr is ↦ keeps (disk_of images) (record {
+            front = are.front;
             sizes = are.sizes;
             slots = are.slots;
             blocks = back images.contents has.first (with_tag tag has.first) before is

@@ -53,7 +53,7 @@ same-byte file first second blocks p =
     ap (λ (bs : List Content). byte_in file.ino bs p) blocks
 
 -- a disk with the same words and blocks
-pub same-stays : (file : File) (start first second : Disk) → Stays file start first →
+same-stays : (file : File) (start first second : Disk) → Stays file start first →
     ((node : ℕ) → second.sizes node ≡ first.sizes node) → second.slots ≡ first.slots →
     second.blocks ≡ first.blocks → Stays file start second
 same-stays file start first second stay sizes slots blocks =
@@ -62,22 +62,34 @@ same-stays file start first second stay sizes slots blocks =
     (λ p out. same-byte file first second blocks p) in
     record { recovers = more.recovers ∙ stay.recovers; ready = more.ready }
 
+pub all-same : (files : List File) (start first second : Disk) → AllStay files start first →
+    second.front ≡ first.front → ((node : ℕ) → second.sizes node ≡ first.sizes node) →
+    second.slots ≡ first.slots → second.blocks ≡ first.blocks → AllStay files start second
+all-same files start first second stay front sizes slots blocks = record {
+  front = front ∙ stay.front;
+  each = λ file among.
+      same-stays file start first second (stay.each file among) sizes slots blocks;
+}
+
 -- ---- steps for the lowest entry of a file
 
 -- a step that keeps one of the files, and each one that has nothing in common with it
 each-stays : (files : List File) (file : File) (first second : Disk) → AreFiles files →
-    Contains files file → Stays file first second →
+    Contains files file → second.front ≡ first.front → Stays file first second →
     ((other : File) → Contains files other → AreTwo file other → Stays other first second) →
     AllStay files first second
-each-stays files file first second are among own others other too =
-    elim (are file other among too) [
+each-stays files file first second are among front own others =
+    record { front = front; each = each }
+  where
+    each : (other : File) → Contains files other → Stays other first second
+    each other too = elim (are file other among too) [
       | inl same ↦ subst (λ (f : File). Stays f first second) (sym same) own
       | inr two ↦ others other too two
     ]
 
 pub writes-all : WritesKeepAll
 writes-all files file at entry rest first second are among ready low step =
-    each-stays files file first second are among own others
+    each-stays files file first second are among step.front own others
   where
     own : Stays file first second
     own = moved-stays file first second (ready file among) (step.sizes file.node)
@@ -104,7 +116,7 @@ size-beside file node size first second ready differs step =
 
 pub size-all : SizesKeepAll
 size-all files file at entry rest first second are among ready low step =
-    each-stays files file first second are among own
+    each-stays files file first second are among step.front own
     (λ other too two. size-beside other file.node (size_after entry.1 (first.sizes file.node))
     first second (ready other too) two.nodes step)
   where
@@ -172,7 +184,7 @@ closes-beside file at first second ready dead step =
 
 pub closes-all : ClosesKeepAll
 closes-all files file at entry rest first second are among ready low home step =
-    each-stays files file first second are among own
+    each-stays files file first second are among step.front own
     (λ other too two. closes-beside other at first second (ready other too)
     (other-dead file.ino other.ino (get_or first.slots at []) two.inodes
     (some-live file.ino first.slots at entry low.here)) step)
@@ -206,28 +218,41 @@ held-home file request disk placed mapped hold size = record {
 -- ---- what is no file's
 
 pub dead-closes : DeadSlotsMayClose
-dead-closes files at first second ready dead step file among =
-    closes-beside file at first second (ready file among) (dead file among) step
+dead-closes files at first second ready dead step = record {
+  front = step.front;
+  each = λ file among.
+      closes-beside file at first second (ready file among) (dead file among) step;
+}
 
 pub other-sizes : OtherSizesMayBeSet
-other-sizes files node size first second ready none step file among =
-    size-beside file node size first second (ready file among) (none file among) step
+other-sizes files node size first second ready none step = record {
+  front = step.front;
+  each = λ file among.
+      size-beside file node size first second (ready file among) (none file among) step;
+}
 
 pub other-blocks : OtherBlocksMayChange
-other-blocks files at content first second ready old new step file among =
-    moved-stays file first second (ready file among) (step.sizes file.node)
-    (same-slots file first second step.slots)
-    (same-once file first second step.slots (ready file among))
-    (λ p out. ap (λ (bs : List Content). byte_in file.ino bs p) step.blocks
-    ∙ set-other file.ino at first.blocks content (old file among) (new file among) p)
+other-blocks files at content first second ready old new step =
+    record { front = step.front; each = each }
+  where
+    each : (file : File) → Contains files file → Stays file first second
+    each file among =
+        moved-stays file first second (ready file among) (step.sizes file.node)
+        (same-slots file first second step.slots)
+        (same-once file first second step.slots (ready file among))
+        (λ p out. ap (λ (bs : List Content). byte_in file.ino bs p) step.blocks
+        ∙ set-other file.ino at first.blocks content (old file among) (new file among) p)
 
 -- ---- step follows step
 
 pub goes-on : StaysGoOn
 goes-on files first second third one = (
-  λ file among. (one file among).ready,
-  λ other file among. record {
-    recovers = (other file among).recovers ∙ (one file among).recovers;
-    ready = (other file among).ready;
+  λ file among. (one.each file among).ready,
+  λ other. record {
+    front = other.front ∙ one.front;
+    each = λ file among. record {
+      recovers = (other.each file among).recovers ∙ (one.each file among).recovers;
+      ready = (other.each file among).ready;
+    };
   },
 )

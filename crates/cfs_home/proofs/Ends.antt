@@ -37,7 +37,7 @@ use Rattle.cfs_home.proofs.Parts.{long-stored, stored-beside}
 
 pub ends-stored : EndsAreStored
 ends-stored files file first last among stay drained =
-    sym (ap (taken_through (stored_in file last)) drained) ∙ (stay file among).recovers
+    sym (ap (taken_through (stored_in file last)) drained) ∙ (stay.each file among).recovers
 
 -- ---- what is closed
 
@@ -163,7 +163,7 @@ load-fresh file disk core ready drained loaded = record {
 
 pub loaded-fresh : LoadedAreFresh
 loaded-fresh files file first last core among stay drained loaded = (
-  load-fresh file last core (stay file among).ready drained loaded,
+  load-fresh file last core (stay.each file among).ready drained loaded,
   loaded.base ∙ ends-stored files file first last among stay drained,
 )
 

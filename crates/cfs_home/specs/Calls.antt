@@ -1,5 +1,5 @@
 -- The disk that a crash leaves of a store's devices, and calls of a mount on one of them.
-use Rattle.std.specs.Prelude.{ℕ, ◌+◌, ◌*◌, ◌<◌, ◌≤◌, ◌≡◌, ◌==◌, if◌then◌else◌, List, [], drop}
+use Rattle.std.specs.Prelude.{ℕ, ◌+◌, ◌*◌, ◌<◌, ◌≤◌, ◌≡◌, ◌==◌, if◌then◌else◌, List, [], drop, take}
 use Rattle.std.specs.Prelude.{get_or, nat_lt}
 use Rattle.cfs_file.specs.declared.request.Request.{Request}
 use Rattle.cfs_file.specs.declared.sizes.TheConstants.{BLOCK_LEN, FILE_BLOCKS}
@@ -12,13 +12,15 @@ use Rattle.cfs_block.specs.Devices.{DeviceImages, DeviceMoments, Devices}
 use Rattle.cfs_medium.specs.Depicts.{IsFor}
 use Rattle.cfs_home.specs.Disks.{AllStay, Disk, File}
 
--- Regions by device number: from 67 on the size words of 256 records, from 323 on the slots.
+-- Regions by device number: below 67 the front, from 67 on the size words of 256 records, from 323
+-- on the slots.
 
 abbrev pub size_in : List (List ℕ) → ℕ → ℕ
 size_in words node = if nat_lt node 256 then get_or (get_or words (67 + node) []) 0 0 else 0
 
 abbrev pub disk_of : DeviceImages → Disk
 disk_of images = record {
+  front = take 67 images.words;
   sizes = size_in images.words;
   slots = drop 323 images.words;
   blocks = images.contents;
@@ -33,6 +35,7 @@ MountMoments files start asked_old old asked_new new =
 
 -- these are the words of that disk
 pub record AreWordsOf (disk : Disk) (words : List (List ℕ)) : Type 0 where
+  pub front : take 67 words ≡ disk.front
   pub sizes : (node : ℕ) → size_in words node ≡ disk.sizes node
   pub slots : drop 323 words ≡ disk.slots
 

@@ -14,8 +14,10 @@ use Rattle.cfs_medium.specs.Depicts.{IsFor, content_at}
 use Rattle.cfs_medium.specs.Laws.{IsOfOthers}
 use Rattle.cfs_home.specs.Parts.{IsSound, Part, own_byte}
 
--- the size word of each record, the words of every slot and the content of every block
+-- the words of the regions below the size words (selector, tables, journal), the size word of each
+-- record, the words of every slot and the content of every block
 pub record Disk : Type 0 where
+  pub front : List (List ℕ)
   pub sizes : ℕ → ℕ
   pub slots : List (List ℕ)
   pub blocks : List Content
@@ -74,8 +76,10 @@ pub record Stays (file : File) (first second : Disk) : Type 0 where
   pub recovers : recovered_in file second ≡ recovered_in file first
   pub ready : IsReady file second
 
-abbrev pub AllStay : List File → Disk → Disk → Type 0
-AllStay files first second = (file : File) → Contains files file → Stays file first second
+-- so of each file; and the front is as it was
+pub record AllStay (files : List File) (first second : Disk) : Type 0 where
+  pub front : second.front ≡ first.front
+  pub each : (file : File) → Contains files file → Stays file first second
 
 -- ---- the lowest live entry of a file
 
@@ -114,12 +118,14 @@ IsMapped ino request blocks = Unit {0}
 
 -- Bytes that the request touches are now anything, in any number of blocks.
 pub record WritesBlocks (file : File) (request : Request) (first second : Disk) : Type 0 where
+  pub front : second.front ≡ first.front
   pub sizes : (node : ℕ) → second.sizes node ≡ first.sizes node
   pub slots : second.slots ≡ first.slots
   pub blocks : BlocksBeside file.ino request first.blocks second.blocks
 
 -- The size word of a record is set.
 pub record SetsSize (node size : ℕ) (first second : Disk) : Type 0 where
+  pub front : second.front ≡ first.front
   pub own : second.sizes node ≡ size
   pub others : (other : ℕ) → other ≢ node → second.sizes other ≡ first.sizes other
   pub slots : second.slots ≡ first.slots
@@ -131,12 +137,14 @@ shut at slots = set slots at (set (get_or slots at []) 0 0)
 
 -- The gate of a slot is closed.
 pub record ClosesSlot (at : ℕ) (first second : Disk) : Type 0 where
+  pub front : second.front ≡ first.front
   pub sizes : (node : ℕ) → second.sizes node ≡ first.sizes node
   pub slots : second.slots ≡ shut at first.slots
   pub blocks : second.blocks ≡ first.blocks
 
 -- A block comes to hold this.
 pub record ChangesBlock (at : ℕ) (content : Content) (first second : Disk) : Type 0 where
+  pub front : second.front ≡ first.front
   pub sizes : (node : ℕ) → second.sizes node ≡ first.sizes node
   pub slots : second.slots ≡ first.slots
   pub blocks : second.blocks ≡ set first.blocks at content

@@ -11,7 +11,7 @@ use Rattle.cfs_block.specs.BlockImages.{BlockStep, Content, content_of}
 use Rattle.cfs_block.specs.Devices.{numbers_of}
 use Rattle.cfs_home.specs.Calls.{MountMoments, disk_of}
 use Rattle.cfs_home.specs.Disks.{AllStay, BlocksHold, Disk, File, IsMapped}
-use Rattle.cfs_home.proofs.Disks.{same-stays}
+use Rattle.cfs_home.proofs.Disks.{all-same}
 use Rattle.cfs_medium.specs.Depicts.{content_at}
 use Rattle.cfs_recover.specs.declared.entry.Entry.{Entry}
 use Rattle.cfs_recover.specs.declared.piece.Piece.{Piece}
@@ -56,6 +56,7 @@ brought-of files file entry live rest start first regions old new pieces bytes _
           are = takes.begins.stands.are;
           stay = stays;
           words = λ words each. record {
+            front = (takes.begins.stands.words words each).front;
             sizes = (takes.begins.stands.words words each).sizes;
             slots = (takes.begins.stands.words words each).slots;
           };
@@ -77,12 +78,12 @@ brought-of files file entry live rest start first regions old new pieces bytes _
         (record { words = words-now regions; contents = contents-now new full })
 
     stays : AllStay files start (with_blocks new first)
-    stays other among =
+    stays =
         let are = takes.begins.stands.words (map words_of regions) (words-now regions) in
-        same-stays other start
+        all-same files start
         (disk_of (record { words = map words_of regions; contents = map content_of new }))
-        (with_blocks new first) (there other among) (λ node. sym (are.sizes node)) (sym are.slots)
-        refl
+        (with_blocks new first) there (sym are.front) (λ node. sym (are.sizes node))
+        (sym are.slots) refl
 
 -- blocks that read as behind the writes and flushes
 module _ (files : List File) (file : File) (entry : Entry) (live : ℕ × Request)

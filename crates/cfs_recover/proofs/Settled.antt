@@ -24,7 +24,7 @@ use Rattle.cfs_home.specs.Disks.{part_of, shut}
 use Rattle.cfs_home.specs.Parts.{ArePlaced, IsHome, IsPlaced, size_after}
 use Rattle.cfs_home.proofs.Behind.{gates-closed, sizes-set}
 use Rattle.cfs_home.proofs.Calls.{closes-stop, sizes-stop}
-use Rattle.cfs_home.proofs.Disks.{closes-all, goes-on, held-home, same-stays, size-all, some-live}
+use Rattle.cfs_home.proofs.Disks.{closes-all, all-same, goes-on, held-home, size-all, some-live}
 use Rattle.cfs_home.proofs.Slots.{shut-lowest, shut-same}
 use Rattle.cfs_recover.specs.declared.entry.Entry.{Entry}
 use Rattle.cfs_recover.specs.Begins.{Begins, Stands, both}
@@ -57,6 +57,7 @@ chosen-other n k size other apart =
 pub with-size-sets : (node size : ℕ) (disk : Disk) →
     SetsSize node size disk (with_size node size disk)
 with-size-sets node size disk = record {
+  front = refl;
   own = chosen-same node node size (disk.sizes node) refl;
   others = λ other apart. chosen-other other node size (disk.sizes other) apart;
   slots = refl;
@@ -84,6 +85,7 @@ module _ (files : List File) (file : File) (entry : Entry) (live : ℕ × Reques
       (size-all files file entry.slot live rest second third brought.begins.stands.are
       brought.begins.among ready brought.begins.low
       (record {
+        front = step.front;
         own = ap third.sizes (sym brought.is.node) ∙ (step.own ∙ brought.is.after);
         others = λ other apart. step.others other (λ same. apart (same ∙ brought.is.node));
         slots = step.slots;
@@ -129,6 +131,7 @@ module _ (files : List File) (file : File) (entry : Entry) (live : ℕ × Reques
   pub words-same : entry.size ≡ entry.size_after →
       HaveWordsOf (with_size entry.node entry.size_after second) regions
   words-same same words each = record {
+    front = (brought.begins.stands.words words each).front;
     sizes = λ node. (brought.begins.stands.words words each).sizes node ∙ was node;
     slots = (brought.begins.stands.words words each).slots;
   }
@@ -205,7 +208,7 @@ module _ (files : List File) (file : File) (entry : Entry) (live : ℕ × Reques
   gate-stands news is within distinct = record {
     are = sized.begins.stands.are;
     stay = closed-stay (record second { slots = shut entry.slot second.slots })
-        (record { sizes = λ node. refl; slots = refl; blocks = refl });
+        (record { front = refl; sizes = λ node. refl; slots = refl; blocks = refl });
     words = subst
         (HaveWordsOf (record second { slots = shut entry.slot second.slots })) (sym is)
         (gates-closed entry.slot second regions
@@ -374,6 +377,6 @@ none-moments files file entry live rest start first regions blocks asked brought
   where
     stays-there : (images : DeviceImages) → AreWordsOf first images.words →
         images.contents ≡ first.blocks → AllStay files start (disk_of images)
-    stays-there images words contents other among =
-        same-stays other start first (disk_of images) (brought.begins.stands.stay other among)
+    stays-there images words contents =
+        all-same files start first (disk_of images) brought.begins.stands.stay words.front
         words.sizes words.slots contents

@@ -16,7 +16,7 @@ use Rattle.cfs_home.specs.Calls.{AreWordsOf, MountMoments, SetsFirst, disk_of, w
 use Rattle.cfs_home.specs.Disks.{AllStay, ClosesSlot, Disk, File, IsDead, IsNoNode, SetsSize, shut}
 use Rattle.cfs_home.proofs.Behind.{gates-closed, sizes-set}
 use Rattle.cfs_home.proofs.Calls.{closes-stop, sizes-stop}
-use Rattle.cfs_home.proofs.Disks.{dead-closes, goes-on, other-sizes, same-stays}
+use Rattle.cfs_home.proofs.Disks.{all-same, dead-closes, goes-on, other-sizes}
 use Rattle.cfs_recover.specs.Begins.{Stands, both}
 use Rattle.cfs_recover.specs.Swept.{all_empty, all_shut, with_no_sizes}
 use Rattle.cfs_recover.specs.Swept.{with_shut}
@@ -36,9 +36,9 @@ stands-moments files start now regions blocks asked stands =
   where
     there : (images : DeviceImages) → AreWordsOf now images.words →
         images.contents ≡ now.blocks → AllStay files start (disk_of images)
-    there images words contents other among =
-        same-stays other start now (disk_of images) (stands.stay other among) words.sizes
-        words.slots contents
+    there images words contents =
+        all-same files start now (disk_of images) stands.stay words.front words.sizes words.slots
+        contents
 
 module _ (files : List File) (start now : Disk) (regions : List (Seen WordStep))
     (blocks : List (Seen BlockStep)) (stands : Stands files start now regions blocks) where
@@ -65,7 +65,7 @@ module _ (files : List File) (start now : Disk) (regions : List (Seen WordStep))
   dead-stands at news dead is within same = record {
     are = stands.are;
     stay = dead-stay at dead (record now { slots = shut at now.slots })
-        (record { sizes = λ node. refl; slots = refl; blocks = refl });
+        (record { front = refl; sizes = λ node. refl; slots = refl; blocks = refl });
     words = λ words each.
         gates-closed at now regions (kept (wrote 0 0 (seen_at regions (323 + at)))) within
         stands.words refl words

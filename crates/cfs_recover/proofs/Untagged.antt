@@ -115,8 +115,9 @@ module _ (files : List File) (start now : Disk) (regions : List (Seen WordStep))
   untag-stands at news none is full within same = record {
     are = stands.are;
     stay = untag-stay at none (untagged_at at now)
-        (record { sizes = λ node. refl; slots = refl; blocks = refl });
+        (record { front = refl; sizes = λ node. refl; slots = refl; blocks = refl });
     words = λ words each. record {
+      front = (stands.words words each).front;
       sizes = (stands.words words each).sizes;
       slots = (stands.words words each).slots;
     };

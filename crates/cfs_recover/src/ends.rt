@@ -11,7 +11,7 @@ ghost use Rattle.cfs_home.specs.Disks.{Disk, File};
 ghost use Rattle.cfs_recover.specs.Begins.{Stands, both};
 ghost use Rattle.cfs_recover.specs.Brought.{AreBrought};
 ghost use Rattle.cfs_recover.specs.Settled.{settled, with_entry_home, with_size_word};
-ghost use Rattle.cfs_recover.specs.Words.{HaveFirstWords};
+ghost use Rattle.cfs_recover.specs.Words.{HaveFirstWords, lengths_of};
 
 use crate::entry::Entry;
 use crate::words::{close_gate, set_size};
@@ -35,6 +35,7 @@ fn settle_size<R: Region, P: Power>(
         MountMoments files start
         (P.asked power.old) (both (map R.seen regions.old) blocks)
         (P.asked power.new) (both (map R.seen regions.new) blocks) }
+    ensures lengths { lengths_of (map R.seen regions.new) ≡ lengths_of (map R.seen regions.old) }
     ensures devices { all_devices (map R.seen regions.new) ≡ all_devices (map R.seen regions.old) }
     ensures cause { HaveCause (map R.faults regions.old) (map R.faults regions.new) result }
 {
@@ -67,6 +68,7 @@ pub fn settle<R: Region, P: Power>(
         (rest : List (ℕ × Request)) (start first : Disk) (blocks : List (Seen BlockStep)) →
         AreBrought files file entry live rest start first (map R.seen regions.old) blocks →
         Stands files start (settled entry first) (map R.seen regions.new) blocks) }
+    ensures lengths { lengths_of (map R.seen regions.new) ≡ lengths_of (map R.seen regions.old) }
     ensures devices { all_devices (map R.seen regions.new) ≡ all_devices (map R.seen regions.old) }
     ensures cause { HaveCause (map R.faults regions.old) (map R.faults regions.new) result }
 {

@@ -14,7 +14,7 @@ ghost use Rattle.cfs_recover.specs.Brought.{TakesUp, with_blocks};
 ghost use Rattle.cfs_recover.specs.Pieces.{ArePieces, LiesWithin, with_flushes, with_writes};
 ghost use Rattle.cfs_recover.specs.Pieces.{with_writes_through};
 ghost use Rattle.cfs_recover.specs.Settled.{settled, with_entry_home};
-ghost use Rattle.cfs_recover.specs.Words.{HaveFirstWords};
+ghost use Rattle.cfs_recover.specs.Words.{HaveFirstWords, lengths_of};
 
 use crate::blocks::{ZEROS, flush_pieces, write_pieces, write_through};
 use crate::ends::settle;
@@ -112,6 +112,7 @@ pub fn bring_home<R: Region, B: Block, P: Power>(
         (map R.seen regions.old) (map B.seen blocks.old) →
         Stands files start (settled entry (with_blocks (map B.seen blocks.new) first))
         (map R.seen regions.new) (map B.seen blocks.new)) }
+    ensures lengths { lengths_of (map R.seen regions.new) ≡ lengths_of (map R.seen regions.old) }
     ensures devices { numbers_of (both (map R.seen regions.new) (map B.seen blocks.new))
         ≡ numbers_of (both (map R.seen regions.old) (map B.seen blocks.old)) }
     ensures numbers { map B.number blocks.new ≡ map B.number blocks.old }
@@ -156,6 +157,7 @@ pub fn zero_home<R: Region, B: Block, P: Power>(
         (map R.seen regions.old) (map B.seen blocks.old) →
         Stands files start (settled entry (with_blocks (map B.seen blocks.new) first))
         (map R.seen regions.new) (map B.seen blocks.new)) }
+    ensures lengths { lengths_of (map R.seen regions.new) ≡ lengths_of (map R.seen regions.old) }
     ensures devices { numbers_of (both (map R.seen regions.new) (map B.seen blocks.new))
         ≡ numbers_of (both (map R.seen regions.old) (map B.seen blocks.old)) }
     ensures numbers { map B.number blocks.new ≡ map B.number blocks.old }

@@ -10,7 +10,7 @@ ghost use Rattle.cfs_home.specs.Disks.{Disk, File};
 ghost use Rattle.cfs_recover.specs.Begins.{Stands, both};
 ghost use Rattle.cfs_recover.specs.Swept.{AreDead, AreNoNodes, all_empty, all_shut};
 ghost use Rattle.cfs_recover.specs.Swept.{with_no_sizes, with_shut};
-ghost use Rattle.cfs_recover.specs.Words.{HaveFirstWords};
+ghost use Rattle.cfs_recover.specs.Words.{HaveFirstWords, lengths_of};
 
 use crate::words::{close_gate, set_size};
 use cfs_pmem::{DeviceFault, Power, Region};
@@ -39,6 +39,7 @@ pub fn close_dead<R: Region, P: Power>(
         Stands files start first (map R.seen regions.old) blocks →
         AreDead files first places.now →
         Stands files start (all_shut places.now first) (map R.seen regions.new) blocks) }
+    ensures lengths { lengths_of (map R.seen regions.new) ≡ lengths_of (map R.seen regions.old) }
     ensures devices { all_devices (map R.seen regions.new) ≡ all_devices (map R.seen regions.old) }
     ensures cause { HaveCause (map R.faults regions.old) (map R.faults regions.new) result }
 {
@@ -70,6 +71,7 @@ pub fn clear_sizes<R: Region, P: Power>(
         ((files : List File) (start first : Disk) (blocks : List (Seen BlockStep)) →
         Stands files start first (map R.seen regions.old) blocks → AreNoNodes files nodes.now →
         Stands files start (all_empty nodes.now first) (map R.seen regions.new) blocks) }
+    ensures lengths { lengths_of (map R.seen regions.new) ≡ lengths_of (map R.seen regions.old) }
     ensures devices { all_devices (map R.seen regions.new) ≡ all_devices (map R.seen regions.old) }
     ensures cause { HaveCause (map R.faults regions.old) (map R.faults regions.new) result }
 {

@@ -6,7 +6,7 @@ ghost use Rattle.cfs_pmem.specs.Objects.{all_devices, seen_at};
 ghost use Rattle.cfs_pmem.specs.WordOps.{SetsWord};
 ghost use Rattle.cfs_slot.specs.Payload.{HaveCause};
 ghost use Rattle.cfs_home.specs.Calls.{SetsFirst};
-ghost use Rattle.cfs_recover.specs.Words.{with_first};
+ghost use Rattle.cfs_recover.specs.Words.{lengths_of, with_first};
 
 use cfs_pmem::{DeviceFault, Power, Region, set_word};
 
@@ -34,6 +34,7 @@ fn set_first<R: Region, P: Power>(
     ensures others { (k : ℕ) → k ≢ place → slice_get regions.new k ≡ slice_get regions.old k }
     ensures moments { SetsFirst place word (P.asked power.old) (map R.seen regions.old)
         (P.asked power.new) (map R.seen regions.new) }
+    ensures lengths { lengths_of (map R.seen regions.new) ≡ lengths_of (map R.seen regions.old) }
     ensures devices { all_devices (map R.seen regions.new) ≡ all_devices (map R.seen regions.old) }
     ensures cause { HaveCause (map R.faults regions.old) (map R.faults regions.new) result }
 {
@@ -60,6 +61,7 @@ pub fn set_size<R: Region, P: Power>(
         slice_get regions.new k ≡ slice_get regions.old k }
     ensures moments { SetsFirst (67 + node) size (P.asked power.old) (map R.seen regions.old)
         (P.asked power.new) (map R.seen regions.new) }
+    ensures lengths { lengths_of (map R.seen regions.new) ≡ lengths_of (map R.seen regions.old) }
     ensures devices { all_devices (map R.seen regions.new) ≡ all_devices (map R.seen regions.old) }
     ensures cause { HaveCause (map R.faults regions.old) (map R.faults regions.new) result }
 {
@@ -84,6 +86,7 @@ pub fn close_gate<R: Region, P: Power>(
         slice_get regions.new k ≡ slice_get regions.old k }
     ensures moments { SetsFirst (323 + at) 0 (P.asked power.old) (map R.seen regions.old)
         (P.asked power.new) (map R.seen regions.new) }
+    ensures lengths { lengths_of (map R.seen regions.new) ≡ lengths_of (map R.seen regions.old) }
     ensures devices { all_devices (map R.seen regions.new) ≡ all_devices (map R.seen regions.old) }
     ensures cause { HaveCause (map R.faults regions.old) (map R.faults regions.new) result }
 {

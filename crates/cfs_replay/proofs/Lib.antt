@@ -4,3 +4,4 @@ pub mod Cutting
 pub mod OneEntry
 pub mod Replays
 pub mod Orders
+pub mod Plans

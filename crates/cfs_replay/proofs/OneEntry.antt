@@ -6,7 +6,7 @@ use Rattle.std.proofs.Common.{take, drop, get_or, set, inl, refl, sym, ap, subst
 use Rattle.std.specs.List.{flat_map}
 use Rattle.std.proofs.lemmas.Bool.Decides.{nat_tests}
 use Rattle.std.proofs.lemmas.List.{drop-set-add, drop-set-lt, get_or-drop, get_or-map}
-use Rattle.std.proofs.lemmas.List.{length-map, length-set, map-set}
+use Rattle.std.proofs.lemmas.List.{length-map, map-set}
 use Rattle.cfs_file.specs.declared.request.Request.{Request}
 use Rattle.cfs_file.specs.declared.request.Request.TheVariants as requests
 use Rattle.cfs_pmem.specs.declared.trace.Asked.{Asked}
@@ -26,7 +26,7 @@ use Rattle.cfs_medium.specs.Store.{entry_at}
 use Rattle.cfs_home.specs.Calls.{MountMoments, disk_of}
 use Rattle.cfs_home.specs.Disks.{AllStay, Disk, File, shut}
 use Rattle.cfs_home.specs.Parts.{size_after}
-use Rattle.cfs_home.proofs.Disks.{same-stays}
+use Rattle.cfs_home.proofs.Disks.{all-same}
 use Rattle.cfs_recover.specs.declared.entry.Entry.{Entry}
 use Rattle.cfs_recover.specs.declared.piece.Piece.{Piece}
 use Rattle.cfs_recover.specs.Begins.{Stands, both}
@@ -35,13 +35,13 @@ use Rattle.cfs_recover.specs.Held.{AreFull}
 use Rattle.cfs_recover.specs.Pieces.{with_flush, with_flushes, with_write, with_writes}
 use Rattle.cfs_recover.specs.Pieces.{with_writes_through, bytes_of}
 use Rattle.cfs_recover.specs.Settled.{settled, with_entry_home, with_size_word}
-use Rattle.cfs_recover.specs.Words.{with_first}
+use Rattle.cfs_recover.specs.Words.{lengths_of, with_first}
 use Rattle.cfs_recover.proofs.BlockCalls.{on-ok}
 use Rattle.cfs_recover.proofs.Lists.{cause-front}
 use Rattle.cfs_recover.proofs.Only.{have-read, words-now}
+use Rattle.cfs_recover.proofs.Settled.{with-size-sets}
 use Rattle.cfs_replay.specs.declared.pending.Pending.{Pending}
 use Rattle.cfs_replay.specs.Entries.{BringsHome, IsBehind, IsNext, IsTakenUp, file_of}
-use Rattle.cfs_replay.specs.Entries.{lengths_of}
 use Rattle.cfs_replay.specs.Pieces.{tags_in}
 use Rattle.cfs_replay.specs.Reading.{LeavesAll, places_of, slots_in, words_at}
 
@@ -163,7 +163,8 @@ pub places-in : (slot tails n : ℕ) → 323 + (slot / 16 * 16 + 15) < n → (k 
 places-in slot tails n room zero less = (slot, (refl, omega arith))
 places-in slot tails n room (suc k) less =
     let f = λ (number : ℕ). 323 + (slot / 16 * 16 + number) in
-    let inside : k < length (numbers_in tails) = omega (arith, less, length-map (numbers_in tails) f) in
+    let inside : k < length (numbers_in tails) = omega
+    (arith, less, length-map (numbers_in tails) f) in
     let few = numbers-few tails k inside in (
       slot / 16 * 16 + get_or (numbers_in tails) k 0,
       (get_or-map f (numbers_in tails) k 0 0 inside, omega arith),
@@ -224,20 +225,6 @@ tags-are [] at = refl
 tags-are (block ∷ blocks) zero = refl
 tags-are (block ∷ blocks) (suc at) = tags-are blocks at
 
-lengths-set : (regions : List (Seen WordStep)) (at : ℕ) (new : Seen WordStep) →
-    length (words_of new) ≡ length (words_of (seen_at regions at)) →
-    lengths_of (set regions at new) ≡ lengths_of regions
-lengths-set [] at new same = refl
-lengths-set (region ∷ regions) zero new same = ap (λ (n : ℕ). n ∷ lengths_of regions) same
-lengths-set (region ∷ regions) (suc at) new same =
-    ap (λ (ns : List ℕ). length (words_of region) ∷ ns) (lengths-set regions at new same)
-
-pub lengths-first : (place word : ℕ) (regions : List (Seen WordStep)) →
-    lengths_of (with_first place word regions) ≡ lengths_of regions
-lengths-first place word regions =
-    lengths-set regions place (kept (wrote 0 word (seen_at regions place)))
-    (length-set (words_of (seen_at regions place)) 0 word)
-
 slots-size : (node word : ℕ) (regions : List (Seen WordStep)) → node < 256 →
     slots_in (with_first (67 + node) word regions) ≡ slots_in regions
 slots-size node word regions less =
@@ -267,17 +254,6 @@ slots-home entry regions less =
     split true = refl
     split false = slots-size entry.node entry.size_after regions less
 
-pub lengths-home : (entry : Entry) (regions : List (Seen WordStep)) →
-    lengths_of (with_entry_home entry regions) ≡ lengths_of regions
-lengths-home entry regions =
-    lengths-first (323 + entry.slot) 0 (with_size_word entry regions)
-    ∙ split (entry.size == entry.size_after)
-  where
-    split : (b : Bool) → lengths_of (if b then regions
-        else with_first (67 + entry.node) entry.size_after regions) ≡ lengths_of regions
-    split true = refl
-    split false = lengths-first (67 + entry.node) entry.size_after regions
-
 -- ---- an entry that is home
 
 module _ {T E : Type 0} (pending : Pending) (entry : Entry) (bytes : List ℕ)
@@ -300,17 +276,18 @@ module _ {T E : Type 0} (pending : Pending) (entry : Entry) (bytes : List ℕ)
       TakesUp files file entry live rest start first bytes pieces olds blocks_old →
       Stands files start (settled entry (with_blocks blocks_new first)) news blocks_new) →
       OnOk result (news ≡ with_entry_home entry olds) →
+      lengths_of news ≡ lengths_of olds →
       OnOk result (tags_in blocks_new ≡ tags_in blocks_old) →
       numbers_of (both news blocks_new) ≡ numbers_of (both olds blocks_old) →
       BringsHome pending result asked_old olds blocks_old asked_new news blocks_new
-  brings-home moments stands regions tags devices = record {
+  brings-home moments stands regions lengths tags devices = record {
     moments = λ files start first has next.
         moments files (file_of pending) next.live next.rest start first
         (takes files start first has next);
     stands = both-ok result stands tags;
     slots = on-ok result (λ is. ap slots_in is ∙ (slots-home entry olds node
         ∙ ap (λ (at : ℕ). shut at (slots_in olds)) slot)) regions;
-    lengths = on-ok result (λ is. ap lengths_of is ∙ lengths-home entry olds) regions;
+    lengths = lengths;
     tags = tags;
     devices = devices;
   }
@@ -324,7 +301,7 @@ module _ {T E : Type 0} (pending : Pending) (entry : Entry) (bytes : List ℕ)
           OnOk r ((files : List File) (start first : Disk) →
           Stands files start first olds blocks_old →
           IsNext files first.slots first.blocks pending →
-          IsBehind files start first pending.slot news blocks_new)
+          IsBehind files start first pending news blocks_new)
       both-ok (Err e) there same = tt
       both-ok (Ok t) there same = λ files start first has next. record {
         now = settled entry (with_blocks blocks_new first);
@@ -336,6 +313,9 @@ module _ {T E : Type 0} (pending : Pending) (entry : Entry) (bytes : List ℕ)
             ∙ (sym (tags-are blocks_old at)
             ∙ ap (λ (cs : List Content). (content_at cs at).tag)
             (have-read first blocks_old full has.blocks_are)));
+        sizes = λ other apart.
+            (with-size-sets entry.node entry.size_after first).others other
+            (λ same. apart (same ∙ (takes files start first has next).is.node));
       }
 
 -- ---- reads come first
@@ -357,9 +337,9 @@ reads-moments files start first olds news blocks stands leaves =
   where
     there : (images : DeviceImages) → IsEachImage IsImage olds images.words →
         IsEachImage IsBlockImage blocks images.contents → AllStay files start (disk_of images)
-    there images words contents file among =
+    there images words contents =
         let are = stands.words images.words words in
-        same-stays file start first (disk_of images) (stands.stay file among) are.sizes are.slots
+        all-same files start first (disk_of images) stands.stay are.front are.sizes are.slots
         (stands.blocks_are images.contents contents)
 
 pub reads-then : {T E : Type 0} (pending : Pending) (result : Result T E)
@@ -376,7 +356,7 @@ reads-then {T} {E} pending result olds mids news blocks_old blocks_new {asked_ol
           give files start first (moved files start first stands) next) home.stands;
       slots = on-ok result (λ is. is ∙ ap (λ (seens : List (Seen WordStep)).
           shut pending.slot (slots_in seens)) leaves.same) home.slots;
-      lengths = on-ok result (λ is. is ∙ ap lengths_of leaves.same) home.lengths;
+      lengths = home.lengths ∙ ap lengths_of leaves.same;
       tags = home.tags;
       devices = home.devices
           ∙ ap (λ (seens : List (Seen WordStep)). numbers_of (both seens blocks_old)) leaves.same;
@@ -400,7 +380,7 @@ reads-fail {T} {E} pending {result} e is olds news blocks {asked_old} {asked_new
           reads-moments files start first olds news blocks stands leaves;
       stands = tt;
       slots = tt;
-      lengths = tt;
+      lengths = ap lengths_of leaves.same;
       tags = tt;
       devices =
           ap (λ (seens : List (Seen WordStep)). numbers_of (both seens blocks)) leaves.same;

@@ -53,7 +53,7 @@ one-ino first second slots at a b here there =
 
 -- ---- a slot is shut
 
-still-stands : (ino at : ℕ) (slots : List (List ℕ)) (other : ℕ) → other ≢ at →
+pub still-stands : (ino at : ℕ) (slots : List (List ℕ)) (other : ℕ) → other ≢ at →
     entry_at ino (shut at slots) other ≡ entry_at ino slots other
 still-stands ino at slots other differs =
     let test : (other == at) ≡ false = grind (arith, nat_tests) in

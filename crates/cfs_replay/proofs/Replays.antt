@@ -12,10 +12,10 @@ use Rattle.cfs_home.specs.Disks.{Disk, File, IsMapped, shut}
 use Rattle.cfs_home.specs.Ends.{IsClosedOrLive}
 use Rattle.cfs_home.proofs.Ends.{shut-swept}
 use Rattle.cfs_recover.specs.Begins.{Stands}
-use Rattle.cfs_recover.specs.Words.{HaveFirstWords}
+use Rattle.cfs_recover.specs.Words.{HaveFirstWords, lengths_of}
 use Rattle.cfs_replay.specs.declared.pending.Pending.{Pending}
 use Rattle.cfs_replay.specs.Entries.{AreInOrder, CanReplay, HaveLeft, HaveTags, HoldsWhole}
-use Rattle.cfs_replay.specs.Entries.{IsBehind, lengths_of}
+use Rattle.cfs_replay.specs.Entries.{IsBehind, file_of}
 use Rattle.cfs_replay.specs.Pieces.{BlockMap, FindsBlocks}
 use Rattle.cfs_replay.specs.Reading.{AreSlots, slots_in, words_at}
 use Rattle.cfs_replay.proofs.OneEntry.{slot-words}
@@ -77,6 +77,7 @@ none-replayed files start first entries regions blocks stands order = record {
   now = first;
   stands = stands;
   tags = λ at. refl;
+  sizes = λ node none. refl;
   swept = λ swept. swept;
   order = order;
 }
@@ -86,12 +87,15 @@ pub left-behind : (files : List File) (start first : Disk) (entry : Pending)
     (entries : List Pending) (olds news : List (Seen WordStep))
     (blocks_old blocks_new : List (Seen BlockStep))
     (left : HaveLeft files start first (entry ∷ entries) olds blocks_old) →
-    IsBehind files start left.now entry.slot news blocks_new →
+    IsBehind files start left.now entry news blocks_new →
     HaveLeft files start first entries news blocks_new
 left-behind files start first entry entries olds news blocks_old blocks_new left behind = record {
   now = behind.now;
   stands = behind.stands;
   tags = λ at. behind.tags at ∙ left.tags at;
+  sizes = λ node none.
+      behind.sizes node (λ same. none (file_of entry) left.order.0.among (sym same))
+      ∙ left.sizes node none;
   swept = λ swept at.
       subst (λ (slots : List (List ℕ)). IsClosedOrLive files (get_or slots at []))
       (sym behind.slots)

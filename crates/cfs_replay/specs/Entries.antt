@@ -1,10 +1,10 @@
 -- The live entries of all files, as a mount takes them up one after another.
 use Rattle.std.specs.Prelude.{ℕ, ◌+◌, ◌*◌, ◌/◌, ◌^◌, ◌<◌, ◌≤◌, ◌≡◌, ◌≢◌, List, [], ◌∷◌, length}
-use Rattle.std.specs.Prelude.{Result, OnOk, Some, map, get_or}
+use Rattle.std.specs.Prelude.{Result, OnOk, Some, get_or}
 use Rattle.std.specs.List.{Contains}
 use Rattle.cfs_file.specs.declared.request.Request.{Request}
 use Rattle.cfs_pmem.specs.declared.trace.Asked.{Asked}
-use Rattle.cfs_pmem.specs.Images.{Seen, WordStep, words_of}
+use Rattle.cfs_pmem.specs.Images.{Seen, WordStep}
 use Rattle.cfs_block.specs.BlockImages.{BlockStep, Content}
 use Rattle.cfs_block.specs.Devices.{numbers_of}
 use Rattle.cfs_slot.specs.declared.fields.Found.{Found}
@@ -13,9 +13,10 @@ use Rattle.cfs_slot.specs.Words.{count_of, found_of, kind_of, offset_of, tails_o
 use Rattle.cfs_medium.specs.Depicts.{content_at}
 use Rattle.cfs_medium.specs.Store.{by_gate, entry_at, live_in}
 use Rattle.cfs_home.specs.Calls.{MountMoments}
-use Rattle.cfs_home.specs.Disks.{Disk, File, IsMapped, shut}
+use Rattle.cfs_home.specs.Disks.{Disk, File, IsMapped, IsNoNode, shut}
 use Rattle.cfs_home.specs.Ends.{IsClosedOrLive}
 use Rattle.cfs_recover.specs.Begins.{Stands, both}
+use Rattle.cfs_recover.specs.Words.{lengths_of}
 use Rattle.cfs_replay.specs.declared.pending.Pending.{Pending}
 use Rattle.cfs_replay.specs.Pieces.{BlockMap, FindsBlocks, tags_in}
 use Rattle.cfs_replay.specs.Reading.{slots_in, words_at}
@@ -68,21 +69,18 @@ AreInOrder files slots blocks (pending ∷ rest) =
 abbrev pub HaveTags : List Content → List Content → Type 0
 HaveTags first second = (at : ℕ) → (content_at second at).tag ≡ (content_at first at).tag
 
--- how many words each region has
-abbrev pub lengths_of : List (Seen WordStep) → List ℕ
-lengths_of regions = map (λ region. length (words_of region)) regions
-
--- A mount finds the files of `start` on a disk with the slot shut and the same tags, and a crash
--- leaves no other.
-pub record IsBehind (files : List File) (start first : Disk) (slot : ℕ)
+-- A mount finds the files of `start` on a disk with the entry's slot shut, and with the same tags
+-- and the same sizes of all other records, and a crash leaves no other.
+pub record IsBehind (files : List File) (start first : Disk) (pending : Pending)
     (regions : List (Seen WordStep)) (blocks : List (Seen BlockStep)) : Type 0 where
   pub now : Disk
   pub stands : Stands files start now regions blocks
-  pub slots : now.slots ≡ shut slot first.slots
+  pub slots : now.slots ≡ shut pending.slot first.slots
   pub tags : HaveTags first.blocks now.blocks
+  pub sizes : (node : ℕ) → node ≢ pending.node → now.sizes node ≡ first.sizes node
 
 -- A call brings a live entry home. At each moment a mount finds the same files; behind `Ok` the
--- slot is shut, and tags and lengths are as before.
+-- slot is shut, and tags are as before. Each region has as many words as before.
 pub record BringsHome {T E : Type 0} (pending : Pending) (result : Result T E)
     (asked_old : List Asked) (regions_old : List (Seen WordStep))
     (blocks_old : List (Seen BlockStep)) (asked_new : List Asked)
@@ -95,9 +93,9 @@ pub record BringsHome {T E : Type 0} (pending : Pending) (result : Result T E)
   pub stands : OnOk result ((files : List File) (start first : Disk) →
       Stands files start first regions_old blocks_old →
       IsNext files first.slots first.blocks pending →
-      IsBehind files start first pending.slot regions_new blocks_new)
+      IsBehind files start first pending regions_new blocks_new)
   pub slots : OnOk result (slots_in regions_new ≡ shut pending.slot (slots_in regions_old))
-  pub lengths : OnOk result (lengths_of regions_new ≡ lengths_of regions_old)
+  pub lengths : lengths_of regions_new ≡ lengths_of regions_old
   pub tags : OnOk result (tags_in blocks_new ≡ tags_in blocks_old)
   pub devices : numbers_of (both regions_new blocks_new)
       ≡ numbers_of (both regions_old blocks_old)
@@ -114,12 +112,14 @@ pub record CanReplay (found : BlockMap) (tags : List ℕ) (regions : List (Seen 
   pub finds : FindsBlocks pending.ino found tags
 
 -- A mount has come to a disk where these entries are left, and finds the files of `start` there. A
--- crash leaves no other disk. Tags are as at first, and no slot was opened.
+-- crash leaves no other disk. Tags and the sizes of what is no file are as at first, and no slot
+-- was opened.
 pub record HaveLeft (files : List File) (start first : Disk) (left : List Pending)
     (regions : List (Seen WordStep)) (blocks : List (Seen BlockStep)) : Type 0 where
   pub now : Disk
   pub stands : Stands files start now regions blocks
   pub tags : HaveTags first.blocks now.blocks
+  pub sizes : (node : ℕ) → IsNoNode files node → now.sizes node ≡ first.sizes node
   pub swept : ((at : ℕ) → IsClosedOrLive files (get_or first.slots at [])) →
       (at : ℕ) → IsClosedOrLive files (get_or now.slots at [])
   pub order : AreInOrder files now.slots now.blocks left

@@ -7,8 +7,8 @@ ghost use Rattle.cfs_home.specs.Calls.{MountMoments};
 ghost use Rattle.cfs_home.specs.Disks.{Disk, File};
 ghost use Rattle.cfs_slot.specs.Payload.{HaveCause};
 ghost use Rattle.cfs_recover.specs.Begins.{Stands, both};
-ghost use Rattle.cfs_recover.specs.Words.{HaveFirstWords};
-ghost use Rattle.cfs_replay.specs.Entries.{AreInOrder, CanReplay, HaveLeft, lengths_of};
+ghost use Rattle.cfs_recover.specs.Words.{HaveFirstWords, lengths_of};
+ghost use Rattle.cfs_replay.specs.Entries.{AreInOrder, CanReplay, HaveLeft};
 ghost use Rattle.cfs_replay.specs.Pieces.{FindsBlocks, tags_in};
 ghost use Rattle.cfs_replay.specs.Reading.{AreSlots};
 
@@ -51,8 +51,7 @@ pub fn replay_entries<R: Region, B: Block, P: Power>(
         AreInOrder files first.slots first.blocks entries.now →
         HaveLeft files start first []
         (map R.seen regions.new) (map B.seen blocks.new)) }
-    ensures lengths { OnOk result
-        (lengths_of (map R.seen regions.new) ≡ lengths_of (map R.seen regions.old)) }
+    ensures lengths { lengths_of (map R.seen regions.new) ≡ lengths_of (map R.seen regions.old) }
     ensures tags { OnOk result
         (tags_in (map B.seen blocks.new) ≡ tags_in (map B.seen blocks.old)) }
     ensures devices { numbers_of (both (map R.seen regions.new) (map B.seen blocks.new))

@@ -6,7 +6,7 @@ returns-in-Ok-clause-change c = changes _ c.requires.chained
 
 pub returns-in-Ok-clause-file : goal.returns-in-Ok-clause-file
 returns-in-Ok-clause-file c =
-    is_of_inode _ 2 7 _ _ _ c.requires.chained c.in-Ok.ensures.short c.in-Ok.ensures.long
+    is_of_inode _ 2 _ _ _ _ c.requires.chained c.in-Ok.ensures.short c.in-Ok.ensures.long
 
 pub returns-in-Ok-clause-holds : goal.returns-in-Ok-clause-holds
 returns-in-Ok-clause-holds c = staged_for _ _ c.in-Ok.ensures.whole

@@ -33,6 +33,7 @@ loop-node-init g c = record {
       subst (λ (xs : List ℕ). Stands files start (all_empty xs first)
       (map g.R.Region.seen c.args.regions.now) blocks)
       (sym (take-none c.args.nodes.now)) stands;
+  lengths = refl;
   devices = refl;
   counts = refl;
 }
@@ -96,6 +97,7 @@ loop-node-preserved g c = record {
         length-map c.loop-node.regions g.R.Region.seen,
       ))
       c.loop-node.invariant.words c.set_size.ensures.devices);
+  lengths = c.set_size.ensures.lengths ∙ c.loop-node.invariant.lengths;
   devices = c.set_size.ensures.devices ∙ c.loop-node.invariant.devices;
   counts = c.in_ok-set_size.ensures.cause.passed ∙ c.loop-node.invariant.counts;
 }

@@ -32,6 +32,7 @@ loop-at-init g c = record {
       subst (λ (xs : List ℕ). Stands files start (all_shut xs first)
       (map g.R.Region.seen c.args.regions.now) blocks)
       (sym (take-none c.args.places.now)) stands;
+  lengths = refl;
   devices = refl;
   counts = refl;
 }
@@ -83,6 +84,7 @@ loop-at-preserved g c = record {
         length-map c.loop-at.regions g.R.Region.seen,
       ))
       c.close_gate.ensures.devices);
+  lengths = c.close_gate.ensures.lengths ∙ c.loop-at.invariant.lengths;
   devices = c.close_gate.ensures.devices ∙ c.loop-at.invariant.devices;
   counts = c.in_ok-close_gate.ensures.cause.passed ∙ c.loop-at.invariant.counts;
 }

@@ -6,7 +6,7 @@ use Rattle.cfs_home.specs.Calls.{MountMoments}
 use Rattle.cfs_home.specs.Disks.{Disk, File}
 use Rattle.cfs_recover.specs.Begins.{Stands, both}
 use Rattle.cfs_recover.specs.Swept.{AreDead, all_shut, with_shut}
-use Rattle.cfs_recover.specs.Words.{HaveFirstWords}
+use Rattle.cfs_recover.specs.Words.{HaveFirstWords, lengths_of}
 use Rattle.cfs_recover.proofs.sweep.close_dead.Given as goal
 
 abbrev pub invariant-loop-at : goal.invariant-loop-at
@@ -25,6 +25,8 @@ invariant-loop-at g l = record {
       AreDead files first l.places →
       Stands files start (all_shut (take l.at-index l.places) first)
       (map g.R.Region.seen l.regions) blocks;
+  lengths : lengths_of (map g.R.Region.seen l.regions)
+      ≡ lengths_of (map g.R.Region.seen l.initial.regions);
   devices : all_devices (map g.R.Region.seen l.regions)
       ≡ all_devices (map g.R.Region.seen l.initial.regions);
   counts : map g.R.Region.faults l.regions ≡ map g.R.Region.faults l.initial.regions;

@@ -6,7 +6,7 @@ use Rattle.cfs_pmem.specs.Objects.{IsImageBut, MomentsOf, seen_at}
 use Rattle.cfs_pmem.specs.WordOps.{SetsWord}
 use Rattle.cfs_pmem.proofs.ObjectLemmas.{map-see-set, one_of, seen_at-map, seen_at-set}
 use Rattle.cfs_recover.proofs.BlockCalls.{cause-of, devices-same_at, on-ok}
-use Rattle.cfs_recover.proofs.WordCalls.{first-is, word-devices}
+use Rattle.cfs_recover.proofs.WordCalls.{first-is, lengths-at, word-devices}
 use Rattle.cfs_recover.proofs.words.set_first.Goals as goal
 
 pub returns-clause-ok : goal.returns-clause-ok
@@ -50,6 +50,11 @@ returns-clause-moments g c =
     (sym (map-see-set see xs c.args.place new))
     (one_of olds c.args.place (omega (arith, length-map xs see, c.requires.place))
     c.requires.distinct of_one)
+
+pub returns-clause-lengths : goal.returns-clause-lengths
+returns-clause-lengths g c =
+    lengths-at g.R.Region.seen c.args.regions.now c.args.place c.index-regions-place.result
+    c.set_word.new.region c.requires.place c.set_word.ensures.set.size
 
 pub returns-clause-devices : goal.returns-clause-devices
 returns-clause-devices g c =

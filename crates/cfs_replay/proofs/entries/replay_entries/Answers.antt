@@ -17,11 +17,14 @@ use Rattle.cfs_replay.proofs.entries.replay_entries.Goals as goal
 pub loop-pending-init : goal.loop-pending-init
 loop-pending-init g c = record {
   moments = λ files start first stands order.
-      stands-moments files start first (map g.R.Region.seen c.args.regions.now) (map g.B.Block.seen c.args.blocks.now) _ stands;
+      stands-moments files start first (map g.R.Region.seen c.args.regions.now)
+      (map g.B.Block.seen c.args.blocks.now) _ stands;
   left = λ files start first stands order.
-      subst (λ (es : List Pending). HaveLeft files start first es (map g.R.Region.seen c.args.regions.now) (map g.B.Block.seen c.args.blocks.now))
+      subst (λ (es : List Pending). HaveLeft files start first es
+      (map g.R.Region.seen c.args.regions.now) (map g.B.Block.seen c.args.blocks.now))
       (all-left c.args.entries.now)
-      (none-replayed files start first c.args.entries.now (map g.R.Region.seen c.args.regions.now) (map g.B.Block.seen c.args.blocks.now) stands order);
+      (none-replayed files start first c.args.entries.now (map g.R.Region.seen c.args.regions.now)
+      (map g.B.Block.seen c.args.blocks.now) stands order);
   lengths = refl;
   tags = refl;
   can = c.requires.entries;
@@ -64,11 +67,13 @@ replay_entry-requires-clause-queue g c =
 
 pub replay_entry-requires-clause-slots : goal.replay_entry-requires-clause-slots
 replay_entry-requires-clause-slots g c =
-    slots-still (map g.R.Region.seen c.args.regions.now) (map g.R.Region.seen c.loop-pending.regions) c.loop-pending.invariant.lengths c.requires.slots
+    slots-still (map g.R.Region.seen c.args.regions.now)
+    (map g.R.Region.seen c.loop-pending.regions) c.loop-pending.invariant.lengths c.requires.slots
 
 pub replay_entry-requires-clause-words : goal.replay_entry-requires-clause-words
 replay_entry-requires-clause-words g c =
-    words-still (map g.R.Region.seen c.args.regions.now) (map g.R.Region.seen c.loop-pending.regions) c.loop-pending.invariant.lengths c.requires.words
+    words-still (map g.R.Region.seen c.args.regions.now)
+    (map g.R.Region.seen c.loop-pending.regions) c.loop-pending.invariant.lengths c.requires.words
 
 pub replay_entry-requires-clause-distinct : goal.replay_entry-requires-clause-distinct
 replay_entry-requires-clause-distinct g c =
@@ -79,12 +84,18 @@ returns-in_err-replay_entry-clause-moments g c = λ files start first stands ord
     let i : ℕ = c.loop-pending.pending-index in
     let es : List Pending = c.args.entries.now in
     let e : Pending = get_or es i (record { node = 0; ino = 0; slot = 0 }) in
-    let left : HaveLeft files start first (e ∷ drop (i + 1) es) (map g.R.Region.seen c.loop-pending.regions) (map g.B.Block.seen c.loop-pending.blocks) =
-    subst (λ (rest : List Pending). HaveLeft files start first rest (map g.R.Region.seen c.loop-pending.regions) (map g.B.Block.seen c.loop-pending.blocks))
+    let left : HaveLeft files start first (e ∷ drop (i + 1) es)
+    (map g.R.Region.seen c.loop-pending.regions) (map g.B.Block.seen c.loop-pending.blocks) =
+    subst (λ (rest : List Pending). HaveLeft files start first rest
+    (map g.R.Region.seen c.loop-pending.regions) (map g.B.Block.seen c.loop-pending.blocks))
     (first-left es i (record { node = 0; ino = 0; slot = 0 }) c.loop-pending-test.true)
     (c.loop-pending.invariant.left files start first stands order) in
     all_after (c.loop-pending.invariant.moments files start first stands order)
     (c.replay_entry.ensures.home.moments files start left.now left.stands left.order.0)
+
+pub returns-in_err-replay_entry-clause-lengths : goal.returns-in_err-replay_entry-clause-lengths
+returns-in_err-replay_entry-clause-lengths g c =
+    c.replay_entry.ensures.home.lengths ∙ c.loop-pending.invariant.lengths
 
 pub returns-in_err-replay_entry-clause-devices : goal.returns-in_err-replay_entry-clause-devices
 returns-in_err-replay_entry-clause-devices g c =
@@ -109,8 +120,10 @@ loop-pending-preserved g c = record {
       let i : ℕ = c.loop-pending.pending-index in
       let es : List Pending = c.args.entries.now in
       let e : Pending = get_or es i (record { node = 0; ino = 0; slot = 0 }) in
-      let left : HaveLeft files start first (e ∷ drop (i + 1) es) (map g.R.Region.seen c.loop-pending.regions) (map g.B.Block.seen c.loop-pending.blocks) =
-      subst (λ (rest : List Pending). HaveLeft files start first rest (map g.R.Region.seen c.loop-pending.regions) (map g.B.Block.seen c.loop-pending.blocks))
+      let left : HaveLeft files start first (e ∷ drop (i + 1) es)
+      (map g.R.Region.seen c.loop-pending.regions) (map g.B.Block.seen c.loop-pending.blocks) =
+      subst (λ (rest : List Pending). HaveLeft files start first rest
+      (map g.R.Region.seen c.loop-pending.regions) (map g.B.Block.seen c.loop-pending.blocks))
       (first-left es i (record { node = 0; ino = 0; slot = 0 }) c.loop-pending-test.true)
       (c.loop-pending.invariant.left files start first stands order) in
       all_after (c.loop-pending.invariant.moments files start first stands order)
@@ -119,18 +132,25 @@ loop-pending-preserved g c = record {
       let i : ℕ = c.loop-pending.pending-index in
       let es : List Pending = c.args.entries.now in
       let e : Pending = get_or es i (record { node = 0; ino = 0; slot = 0 }) in
-      let left : HaveLeft files start first (e ∷ drop (i + 1) es) (map g.R.Region.seen c.loop-pending.regions) (map g.B.Block.seen c.loop-pending.blocks) =
-      subst (λ (rest : List Pending). HaveLeft files start first rest (map g.R.Region.seen c.loop-pending.regions) (map g.B.Block.seen c.loop-pending.blocks))
+      let left : HaveLeft files start first (e ∷ drop (i + 1) es)
+      (map g.R.Region.seen c.loop-pending.regions) (map g.B.Block.seen c.loop-pending.blocks) =
+      subst (λ (rest : List Pending). HaveLeft files start first rest
+      (map g.R.Region.seen c.loop-pending.regions) (map g.B.Block.seen c.loop-pending.blocks))
       (first-left es i (record { node = 0; ino = 0; slot = 0 }) c.loop-pending-test.true)
       (c.loop-pending.invariant.left files start first stands order) in
-      left-behind files start first e (drop (i + 1) es) (map g.R.Region.seen c.loop-pending.regions) (map g.R.Region.seen c.replay_entry.new.regions) (map g.B.Block.seen c.loop-pending.blocks) (map g.B.Block.seen c.replay_entry.new.blocks) left
+      left-behind files start first e (drop (i + 1) es) (map g.R.Region.seen c.loop-pending.regions)
+      (map g.R.Region.seen c.replay_entry.new.regions) (map g.B.Block.seen c.loop-pending.blocks)
+      (map g.B.Block.seen c.replay_entry.new.blocks) left
       (c.in_ok-replay_entry.ensures.home.stands files start left.now left.stands left.order.0);
-  lengths = c.in_ok-replay_entry.ensures.home.lengths ∙ c.loop-pending.invariant.lengths;
+  lengths = c.replay_entry.ensures.home.lengths ∙ c.loop-pending.invariant.lengths;
   tags = c.in_ok-replay_entry.ensures.home.tags ∙ c.loop-pending.invariant.tags;
   can = λ k d less.
-      can-still c.args.found.now (tags_in (map g.B.Block.seen c.loop-pending.blocks)) (tags_in (map g.B.Block.seen c.replay_entry.new.blocks)) (map g.R.Region.seen c.loop-pending.regions) (map g.R.Region.seen c.replay_entry.new.regions) _
+      can-still c.args.found.now (tags_in (map g.B.Block.seen c.loop-pending.blocks))
+      (tags_in (map g.B.Block.seen c.replay_entry.new.blocks))
+      (map g.R.Region.seen c.loop-pending.regions) (map g.R.Region.seen c.replay_entry.new.regions)
+      _
       (get_or c.args.entries.now k d) c.in_ok-replay_entry.ensures.home.slots
-      c.in_ok-replay_entry.ensures.home.lengths c.in_ok-replay_entry.ensures.home.tags
+      c.replay_entry.ensures.home.lengths c.in_ok-replay_entry.ensures.home.tags
       (c.loop-pending.invariant.can k d less);
   devices = c.replay_entry.ensures.home.devices ∙ c.loop-pending.invariant.devices;
   size = c.replay_entry.ensures.buffer;
@@ -140,7 +160,8 @@ loop-pending-preserved g c = record {
 
 pub returns-clause-replayed : goal.returns-clause-replayed
 returns-clause-replayed g c = λ files start first stands order.
-    subst (λ (es : List Pending). HaveLeft files start first es (map g.R.Region.seen c.loop-pending.regions) (map g.B.Block.seen c.loop-pending.blocks))
+    subst (λ (es : List Pending). HaveLeft files start first es
+    (map g.R.Region.seen c.loop-pending.regions) (map g.B.Block.seen c.loop-pending.blocks))
     (drop_all c.loop-pending.pending-index c.args.entries.now
     (omega (arith, c.loop-pending-test.false)))
     (c.loop-pending.invariant.left files start first stands order)

@@ -3,8 +3,9 @@ use Rattle.cfs_block.specs.Devices.{numbers_of}
 use Rattle.cfs_home.specs.Calls.{MountMoments}
 use Rattle.cfs_home.specs.Disks.{Disk, File}
 use Rattle.cfs_recover.specs.Begins.{Stands, both}
+use Rattle.cfs_recover.specs.Words.{lengths_of}
 use Rattle.cfs_replay.specs.declared.pending.Pending.{Pending}
-use Rattle.cfs_replay.specs.Entries.{AreInOrder, CanReplay, HaveLeft, lengths_of}
+use Rattle.cfs_replay.specs.Entries.{AreInOrder, CanReplay, HaveLeft}
 use Rattle.cfs_replay.specs.Pieces.{tags_in}
 use Rattle.cfs_replay.proofs.entries.replay_entries.Given as goal
 

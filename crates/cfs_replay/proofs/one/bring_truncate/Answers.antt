@@ -56,6 +56,7 @@ returns-clause-home g c =
     (sym (have-read first seens full stands.blocks_are)) ∙ tags-are seens at)
     c.requires.finds c.args.head.offset)))
     c.zero_home.ensures.moments c.zero_home.ensures.stands c.zero_home.ensures.regions
+    c.zero_home.ensures.lengths
     (on-ok c.zero_home.result
     (λ is. ap tags_in is ∙ tags-through c.deref.result.now ZEROS seens)
     c.zero_home.ensures.blocks)

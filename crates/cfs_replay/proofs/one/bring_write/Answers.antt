@@ -72,7 +72,8 @@ pub bring_home-requires-clause-within : goal.bring_home-requires-clause-within
 bring_home-requires-clause-within g c =
     let seens = map g.B.Block.seen c.args.blocks.now in
     let head = c.args.head in
-    let cut : List Piece = write_pieces c.args.found.now c.args.pending.ino head.offset head.count in
+    let cut : List Piece = write_pieces c.args.found.now c.args.pending.ino head.offset head.count
+    in
     let words : List ℕ =
     words_at (map g.R.Region.seen c.args.regions.now) (323 + c.args.pending.slot) in
     let kind : head.kind ≡ _ = ap (λ (f : Found). f.kind) c.requires.taken.reads in
@@ -159,6 +160,7 @@ returns-clause-home g c =
     (sym (have-read first seens full stands.blocks_are)) ∙ tags-are seens at)
     c.requires.finds head.offset bytes fits)))
     c.bring_home.ensures.moments c.bring_home.ensures.stands c.bring_home.ensures.regions
+    c.bring_home.ensures.lengths
     (on-ok c.bring_home.result
     (λ is. ap tags_in is
     ∙ (tags-flushes c.deref-2.result.now (with_writes c.deref-2.result.now bytes seens)

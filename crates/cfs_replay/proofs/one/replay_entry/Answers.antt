@@ -116,12 +116,14 @@ returns-then-head-eq-TRUNCATE-clause-home g c =
     reads-then c.args.pending c.bring_truncate.result (map g.R.Region.seen c.args.regions.now)
     (map g.R.Region.seen c.read_word.new.regions) (map g.R.Region.seen c.bring_truncate.new.regions)
     (map g.B.Block.seen c.args.blocks.now) (map g.B.Block.seen c.bring_truncate.new.blocks)
-    (leaves-after c.read_found.ensures.leaves c.read_word.ensures.leaves) c.bring_truncate.ensures.home
+    (leaves-after c.read_found.ensures.leaves c.read_word.ensures.leaves)
+    c.bring_truncate.ensures.home
 
 pub returns-then-head-eq-TRUNCATE-clause-cause : goal.returns-then-head-eq-TRUNCATE-clause-cause
 returns-then-head-eq-TRUNCATE-clause-cause g c =
     subst (λ (ns : List ℕ). HaveCause (ns ++ map g.B.Block.faults c.args.blocks.now)
-    (map g.R.Region.faults c.bring_truncate.new.regions ++ map g.B.Block.faults c.bring_truncate.new.blocks)
+    (map g.R.Region.faults c.bring_truncate.new.regions ++ map g.B.Block.faults
+    c.bring_truncate.new.blocks)
     c.bring_truncate.result)
     (c.in_ok-size.ensures.cause.passed ∙ c.in_ok-head.ensures.cause.passed)
     c.bring_truncate.ensures.cause
@@ -178,7 +180,8 @@ returns-clause-home g c =
 pub returns-clause-cause : goal.returns-clause-cause
 returns-clause-cause g c =
     subst (λ (ns : List ℕ). HaveCause (ns ++ map g.B.Block.faults c.args.blocks.now)
-    (map g.R.Region.faults c.bring_write.new.regions ++ map g.B.Block.faults c.bring_write.new.blocks)
+    (map g.R.Region.faults c.bring_write.new.regions ++ map g.B.Block.faults
+    c.bring_write.new.blocks)
     c.bring_write.result)
     (c.in_ok-size.ensures.cause.passed ∙ c.in_ok-head.ensures.cause.passed)
     c.bring_write.ensures.cause

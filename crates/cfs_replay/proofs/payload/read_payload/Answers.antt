@@ -24,7 +24,8 @@ loop-k-preserved g c =
     length-map places (words_at olds) in
     let below : 8 * k < c.args.len = omega (arith, c.loop-k-test.true, c.div_ceil-k-end.ensures) in
     let slot : k / 512 < length places = omega (arith, below, c.requires.whole) in
-    let room : 8 * k + 8 ≤ length c.loop-k.buffer = omega (arith, below, c.requires.few, inv.size) in
+    let room : 8 * k + 8 ≤ length c.loop-k.buffer = omega (arith, below, c.requires.few, inv.size)
+    in
     record {
       leaves = leaves-after inv.leaves c.read_word.ensures.leaves;
       counts = c.in_ok-word.ensures.cause.passed ∙ inv.counts;

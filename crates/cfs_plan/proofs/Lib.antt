@@ -1,0 +1,11 @@
+pub mod Members
+pub mod Filters
+pub mod TreeFiles
+pub mod Heads
+pub mod Passed
+pub mod Found
+pub mod Ordered
+pub mod Told
+pub mod Listed
+pub mod Plans
+pub mod Ready

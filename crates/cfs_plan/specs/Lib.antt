@@ -1,0 +1,5 @@
+pub mod Files
+pub mod Lists
+pub mod Pendings
+pub mod Readings
+pub mod Mounts
