@@ -1,5 +1,6 @@
 -- The words of a slot that stand in an image, and the bytes of its payload.
-use Rattle.std.proofs.Common.{◌≡◌, ◌∙◌, ℕ, zero, suc, ◌+◌, ◌-◌, ◌*◌, ◌<◌, ◌≤◌, List, [], ◌∷◌, length}
+use Rattle.std.proofs.Common.{◌≡◌, ◌∙◌, ℕ, zero, suc, ◌+◌, ◌-◌, ◌*◌, ◌<◌, ◌≤◌, List, [], ◌∷◌}
+use Rattle.std.proofs.Common.{length}
 use Rattle.std.proofs.Common.{take, drop, get_or, sym, ap, subst, arith}
 use Rattle.std.proofs.lemmas.Bool.Decides.{nat_tests}
 use Rattle.std.proofs.lemmas.List.{drop-drop, drop-take, get_or-drop}
@@ -17,7 +18,8 @@ use Rattle.cfs_dump.specs.Stores.{slots_in}
 
 -- ---- words
 
-pub length-words_at : (bytes : List ℕ) (at count : ℕ) → length (words_at bytes at count) ≡ count
+pub length-words_at : (bytes : List ℕ) (at count : ℕ) →
+    length (words_at bytes at count) ≡ count
 unfolding words_at
 length-words_at bytes at count =
     length-map-range_with_len (λ k. word_at bytes (at + 8 * k)) 0 count
@@ -77,7 +79,8 @@ small_front (suc n) [] small k = small k
 small_front (suc n) (byte ∷ bytes) small zero = small 0
 small_front (suc n) (byte ∷ bytes) small (suc k) = small_front n bytes (λ j. small (suc j)) k
 
-small_part : (bytes : List ℕ) (from n : ℕ) → AreSmall bytes → AreSmall (take n (drop from bytes))
+small_part : (bytes : List ℕ) (from n : ℕ) → AreSmall bytes →
+    AreSmall (take n (drop from bytes))
 small_part bytes from n small =
     small_front n (drop from bytes)
     (λ k. subst (λ v. v < 256) (sym (get_or-drop from bytes k 0)) (small (from + k)))

@@ -6,7 +6,8 @@ use Rattle.std.proofs.lemmas.Bool.Decides.{nat_tests}
 use Rattle.std.specs.List.{flat_map}
 use Rattle.cfs_file.specs.declared.request.Request.TheVariants.{Truncate, Write}
 use Rattle.cfs_image.specs.Image.{word_at}
-use Rattle.cfs_slot.specs.Words.{area_of, count_of, kind_of, offset_of, payload_of, request_of, tails_of}
+use Rattle.cfs_slot.specs.Words.{area_of, count_of, kind_of, offset_of, payload_of, request_of}
+use Rattle.cfs_slot.specs.Words.{tails_of}
 use Rattle.cfs_dump.specs.Reads.{heads_in}
 use Rattle.cfs_dump.specs.Stores.{slots_in}
 use Rattle.cfs_dump.proofs.Areas.{same_head}

@@ -24,7 +24,8 @@ const TAG_LEN: usize = 8;
 /// The block that is tagged for a block of a file, if there is one.
 fn block_for(found: &IndexMap<u64, u32>, ino: u64, block: u64) -> Option<u32>
     requires { ino < 2 ^ 32 }
-    ensures { result ≡ (if nat_lt block 256 then get nat_eq found.now (tag_of ino block) else None) }
+    ensures { result ≡
+        (if nat_lt block 256 then get nat_eq found.now (tag_of ino block) else None) }
 {
     if block < FILE_BLOCKS {
         found.get(&(ino * TAG_UNIT + block + 1)).copied()
