@@ -1,15 +1,14 @@
 //! All checks of an image.
 ghost use Rattle.std.specs.Prelude.{◌≡◌, IfErr, IfOk, None, OnOk};
 ghost use Rattle.cfs_fsck.specs.Images.{image_checks, image_words};
-ghost use Rattle.cfs_fsck.specs.Refusals.{NamesFault, refusal_as};
+ghost use Rattle.cfs_fsck.specs.Refusals.{NamesFault};
 ghost use Rattle.cfs_fsck.specs.Reports.{report_of};
 ghost use Rattle.cfs_image.specs.Checks.{damage_of};
 
 use crate::count::count;
 use crate::report::Report;
-use crate::words::read_words;
-use cfs_image::{ImageRefusal, Version, check_header};
-use cfs_survey::{SurveyRefusal, survey_words};
+use crate::survey::survey_image;
+use cfs_image::ImageRefusal;
 use std::alloc::Global;
 
 /// Makes all checks of an image, and counts what its store holds.
@@ -22,25 +21,6 @@ pub fn check_image(alloc: Global, bytes: &[u8]) -> Result<Report, ImageRefusal>
     ensures report { IfOk result (λ report. report ≡ report_of (image_words bytes.now)) }
     ensures err { IfErr result (NamesFault bytes.now) }
 {
-    let size = check_header(bytes, Version::Present)?;
-    let words = read_words(alloc, bytes, size)?;
-    let survey = match survey_words(alloc, &words) {
-        Ok(survey) => survey,
-        Err(refusal) => return Err(refusal_of(refusal)),
-    };
+    let (words, survey) = survey_image(alloc, bytes)?;
     Ok(count(alloc, &words, &survey)?)
-}
-
-/// The refusal of an image whose words are refused so.
-fn refusal_of(refusal: SurveyRefusal) -> ImageRefusal
-    ensures { result ≡ refusal_as refusal }
-{
-    match refusal {
-        SurveyRefusal::Damaged(fault) => ImageRefusal::Damaged {
-            offset: fault.offset,
-            found: fault.found,
-            against: fault.against,
-        },
-        SurveyRefusal::NoMemory => ImageRefusal::NoMemory,
-    }
 }

@@ -1,0 +1,9 @@
+pub mod Areas
+pub mod Blocks
+pub mod Entries
+pub mod Lives
+pub mod Maps
+pub mod Orders
+pub mod Paths
+pub mod Tails
+pub mod Told
