@@ -16,6 +16,3 @@ pub use free_block::{FreeBlock, ZeroBlock};
 pub use history::BlockHistory;
 pub use mem_block::MemBlock;
 pub use shadow::Shadow;
-
-#[cfg(test)]
-mod tests;

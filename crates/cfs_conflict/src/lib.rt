@@ -7,6 +7,3 @@ mod conflicts;
 mod questions;
 
 pub use conflicts::Conflicts;
-
-#[cfg(test)]
-mod tests;

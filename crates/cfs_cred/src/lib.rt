@@ -10,6 +10,3 @@ mod want;
 pub use credential::Credential;
 pub use rights::allows;
 pub use want::Want;
-
-#[cfg(test)]
-mod tests;

@@ -20,6 +20,3 @@ mod tracks;
 pub use event_refusal::EventRefusal;
 pub use medium::{image_now, is_image, recovered_file, stored_file};
 pub use run::run_events;
-
-#[cfg(test)]
-mod tests;

@@ -11,6 +11,3 @@ mod runs;
 mod seat;
 
 pub use extent_map::{BLOCKS, ExtentMap};
-
-#[cfg(test)]
-mod tests;

@@ -27,6 +27,3 @@ pub use sizes::{
 };
 pub use span::{Span, covers, overlaps, span_of};
 pub use word::Word;
-
-#[cfg(test)]
-mod tests;

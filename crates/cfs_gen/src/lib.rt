@@ -16,6 +16,3 @@ mod summary;
 
 pub use script::{MOST_REQUESTS, gen_script};
 pub use summary::{Summary, print_summary};
-
-#[cfg(test)]
-mod tests;

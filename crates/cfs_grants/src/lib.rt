@@ -6,8 +6,6 @@ mod free;
 mod grant;
 mod grants;
 mod removed;
-#[cfg(test)]
-mod tests;
 
 pub use free::FreeRecords;
 pub use grant::Grant;

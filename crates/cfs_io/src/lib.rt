@@ -44,6 +44,3 @@ pub use source::Source;
 pub use std_sink::StdSink;
 pub use std_source::StdSource;
 pub use system_folder::SystemFolder;
-
-#[cfg(test)]
-mod tests;

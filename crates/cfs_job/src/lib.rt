@@ -11,6 +11,3 @@ mod turn;
 pub use job::Job;
 pub use lent::Lent;
 pub use turn::Turn;
-
-#[cfg(test)]
-mod tests;

@@ -9,6 +9,3 @@ mod room;
 pub use chain::stage_chain;
 pub use laws::staged_stands_whole;
 pub use room::{are_chain, is_chained, slots_for};
-
-#[cfg(test)]
-mod tests;

@@ -21,6 +21,3 @@ pub use laws::{
 };
 pub use line::{crash_line, fail_line, stop_line};
 pub use power::{crash, number_of, plan, stop};
-
-#[cfg(test)]
-mod tests;

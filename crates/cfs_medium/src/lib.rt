@@ -164,6 +164,3 @@ pub fn writes_show()
 pub fn empty_stores_depict()
     ensures { EmptyStoresDepict }
 {}
-
-#[cfg(test)]
-mod tests;

@@ -4,6 +4,3 @@
 mod upgrade;
 
 pub use upgrade::upgrade_bytes;
-
-#[cfg(test)]
-mod tests;

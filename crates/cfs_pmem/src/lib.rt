@@ -26,6 +26,3 @@ pub use power::Power;
 pub use region::{Region, set_word, write_words};
 pub use regions::set_word_of;
 pub use trace::{Asked, Trace};
-
-#[cfg(test)]
-mod tests;

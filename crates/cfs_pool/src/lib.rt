@@ -9,6 +9,3 @@ mod ranked;
 pub use numbered::Numbered;
 pub use pool::{FEW, MANY, Pool, Short};
 pub use ranked::Ranked;
-
-#[cfg(test)]
-mod tests;

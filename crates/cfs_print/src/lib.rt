@@ -18,6 +18,3 @@ pub use out_line::OutLine;
 pub use places::Places;
 pub use print::print_line;
 pub use printed::Printed;
-
-#[cfg(test)]
-mod tests;

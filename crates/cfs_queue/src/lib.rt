@@ -13,6 +13,3 @@ mod rows;
 
 pub use queue::Queue;
 pub use refusal::{Few, Full};
-
-#[cfg(test)]
-mod tests;

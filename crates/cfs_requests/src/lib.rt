@@ -9,8 +9,6 @@ mod laws;
 mod look;
 mod name_refusal;
 mod opening;
-#[cfg(test)]
-mod tests;
 
 pub use laws::{found_is_allowed, orders_go_on};
 pub use look::{look_to_make, look_to_move, look_to_open, look_to_remove, look_to_unlink};

@@ -8,6 +8,3 @@ mod summary;
 pub use choice::{Choice, choose, passed_over_often_comes_first};
 pub use gate::{Gate, OpenGate};
 pub use summary::Summary;
-
-#[cfg(test)]
-mod tests;

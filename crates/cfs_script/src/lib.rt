@@ -28,6 +28,3 @@ pub use print::{print_and_read_play, print_and_read_run, print_script};
 pub use read::{read_play, read_run};
 pub use script::{MOST_LINES, Script};
 pub use script_refusal::ScriptRefusal;
-
-#[cfg(test)]
-mod tests;

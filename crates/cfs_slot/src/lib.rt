@@ -33,6 +33,3 @@ pub use recovery::found;
 pub use slot::Slot;
 pub use staged::Staged;
 pub use staging::{is_long, is_stageable, staged_payload};
-
-#[cfg(test)]
-mod tests;

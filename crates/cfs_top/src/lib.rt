@@ -17,6 +17,3 @@ mod world;
 
 pub use status::Status;
 pub use steady::crossfs_steady;
-
-#[cfg(test)]
-mod tests;

@@ -18,6 +18,3 @@ pub use span_node::SpanNode;
 pub use span_tree::SpanTree;
 pub use steps::Steps;
 pub use store::SpanStore;
-
-#[cfg(test)]
-mod tests;

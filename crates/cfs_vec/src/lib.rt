@@ -4,6 +4,3 @@
 mod fixed_vec;
 
 pub use fixed_vec::FixedVec;
-
-#[cfg(test)]
-mod tests;

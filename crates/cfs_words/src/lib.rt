@@ -28,6 +28,3 @@ pub use printing::{
 pub use refusal::WordRefusal;
 pub use seek::Seek;
 pub use words::Words;
-
-#[cfg(test)]
-mod tests;

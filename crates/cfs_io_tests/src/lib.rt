@@ -1,0 +1,5 @@
+//! Tests of sources, sinks, shelves and folders.
+#![tactic(auto)]
+
+#[cfg(test)]
+mod tests;

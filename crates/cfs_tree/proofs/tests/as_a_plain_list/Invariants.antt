@@ -1,4 +1,0 @@
-use Rattle.cfs_tree.proofs.tests.as_a_plain_list.Given as goal
-
-abbrev pub ghosts-drawn_calls : goal.ghosts-drawn_calls
-ghosts-drawn_calls g a = record { name = a.blank.name; parts = a.blank.parts }

@@ -1,4 +1,0 @@
-use Rattle.cfs_tree.proofs.tests.two_hundred_spans.Given as goal
-
-abbrev pub ghosts-kept_in_tens : goal.ghosts-kept_in_tens
-ghosts-kept_in_tens g a = record { name = a.blank.name; parts = a.blank.parts }
