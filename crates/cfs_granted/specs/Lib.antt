@@ -1,0 +1,10 @@
+pub mod Rows
+pub mod Readers
+pub mod Granted
+pub mod Clean
+pub mod Idle
+pub mod Ending
+pub mod View
+pub mod Attaching
+pub mod Asking
+pub mod Detaching

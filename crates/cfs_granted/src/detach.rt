@@ -1,0 +1,47 @@
+//! Grants are taken away.
+
+ghost use Rattle.std.specs.Prelude.{◌≡◌, None, find};
+ghost use Rattle.cfs_active.specs.Makes.{QuietlyMakes};
+ghost use Rattle.cfs_tracker.specs.Listing.{listing};
+ghost use Rattle.cfs_granted.specs.Detaching.{all_dropped, detach_events, detached};
+ghost use Rattle.cfs_granted.specs.Readers.{is_under, places_under};
+ghost use Rattle.cfs_granted.specs.View.{life_view};
+
+use crate::life::Life;
+use crate::reader::Reader;
+use crate::rows::queue_of;
+
+impl Life {
+    /// Takes the grant of a number away, with the reads and syncs that are pending under it. No
+    /// change of it is pending or in doubt, which `listing` tells. No device is asked for a step.
+    pub fn detach(&mut self, number: u64)
+        requires { listing (life_view self.old).active.state.tracker number 0 ≡ None }
+        ensures view { life_view self.new ≡ detached number (life_view self.old) }
+        ensures makes { QuietlyMakes (detach_events number (life_view self.old))
+            (life_view self.old).active (life_view self.new).active }
+    {
+        self.drop_under(number);
+        if let Some(queue) = queue_of(self.grants.rows(), number) {
+            self.grants.close(queue as u32);
+        }
+    }
+
+    /// Drops the reads and syncs that are pending under a grant.
+    fn drop_under(&mut self, number: u64)
+        ensures view { life_view self.new ≡
+            all_dropped (places_under number (life_view self.old).readers) (life_view self.old) }
+        ensures makes { QuietlyMakes (detach_events number (life_view self.old))
+            (life_view self.old).active (life_view self.new).active }
+    {
+        while let Some(reader) = first_under(&self.readers, number) {
+            self.drop_read(reader.place);
+        }
+    }
+}
+
+/// The first of these that is under a grant.
+fn first_under(readers: &[Reader], number: u64) -> Option<Reader>
+    ensures { result ≡ find (λ r. is_under number r) readers.now }
+{
+    readers.iter().find(|reader| reader.grant == number).copied()
+}
