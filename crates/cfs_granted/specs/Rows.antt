@@ -1,8 +1,6 @@
 -- Grants by their numbers, each at its queue.
-use Rattle.std.specs.Prelude.{ℕ, ◌==◌, Bool, true, false, ◌&&◌, ◌||◌, List, Option, Some, None, find}
-use Rattle.std.specs.Prelude.{is_some, set, option_map}
+use Rattle.std.specs.Prelude.{ℕ, ◌==◌, Bool, true, false, ◌&&◌, ◌||◌, List, [], ◌∷◌, Option, Some, None, set}
 use Rattle.std.specs.List.{list_any, position}
-use Rattle.std.specs.Option.{option_and_then}
 use Rattle.cfs_grants.specs.declared.grant.Grant.{Grant}
 
 abbrev pub Rows : Type 0
@@ -34,9 +32,9 @@ may_ask is_sync number rows = list_any (λ row. is_asker is_sync number row) row
 
 -- the number of the grant with the lowest queue
 abbrev pub first_number : Rows → Option ℕ
-first_number rows =
-    option_and_then (λ row. option_map (λ (g : Grant). g.number) row)
-    (find (λ row. is_some row) rows)
+first_number [] = None
+first_number (None ∷ rows) = first_number rows
+first_number (Some grant ∷ rows) = Some grant.number
 
 -- the row is without a grant
 abbrev pub closed_at : Option ℕ → Rows → Rows

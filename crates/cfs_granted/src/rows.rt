@@ -37,9 +37,12 @@ pub(crate) fn queue_of(rows: &[Option<Grant>], number: u64) -> Option<usize>
 pub(crate) fn first_number(rows: &[Option<Grant>]) -> Option<u64>
     ensures { result ≡ first_number rows.now }
 {
-    let row = rows.iter().find(|row| row.is_some())?;
-    let grant = (*row)?;
-    Some(grant.number)
+    for row in rows {
+        if let Some(grant) = row {
+            return Some(grant.number);
+        }
+    }
+    None
 }
 
 fn is_numbered(row: &Option<Grant>, number: u64) -> bool

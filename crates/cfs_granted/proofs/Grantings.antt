@@ -1,0 +1,320 @@
+-- What each call of a state leaves of the grants that its requests were asked under.
+use Rattle.std.proofs.Common.{◌≡◌, ◌∙◌, ◌+◌, ◌++◌, ◌&&◌, ℕ, Bool, true, false, Option, Some, None}
+use Rattle.std.proofs.Common.{List, [], ◌∷◌, ap, inl, inr, length, refl, subst, sym}
+use Rattle.std.specs.List.{list_all}
+use Rattle.std.proofs.lemmas.Bool.{and_from, and_parts, cases_Bool}
+use Rattle.std.proofs.lemmas.List.Folds.{list_all-append}
+use Rattle.cfs_file.specs.declared.request.Request.{Request}
+use Rattle.cfs_file.specs.declared.span.Span.{Span}
+use Rattle.cfs_job.specs.Views.{JobView}
+use Rattle.cfs_pmem.specs.declared.trace.Asked.{Asked}
+use Rattle.cfs_pmem.specs.Images.{Seen, WordStep, words_of}
+use Rattle.cfs_tracker.specs.declared.in_doubt.InDoubt.{InDoubt}
+use Rattle.cfs_tracker.specs.declared.pending.Pending.{Pending}
+use Rattle.cfs_tracker.specs.Finish.{size_after}
+use Rattle.cfs_tracker.specs.Settle.{with_slots}
+use Rattle.cfs_tracker.specs.View.{is_at, with_entry}
+use Rattle.cfs_inode.specs.declared.answers.ServeAnswer.{ServeAnswer}
+use Rattle.cfs_inode.specs.declared.mark_answer.MarkAnswer.{MarkAnswer}
+use Rattle.cfs_inode.specs.declared.mark_answer.MarkAnswer.TheVariants as marks
+use Rattle.cfs_inode.specs.declared.size_answer.SizeAnswer.{SizeAnswer}
+use Rattle.cfs_inode.specs.declared.size_answer.SizeAnswer.TheVariants as went
+use Rattle.cfs_inode.specs.Admitting.{AdmitEnd, Admits, AdmitsReady, AdmitsSettled, doubts}
+use Rattle.cfs_inode.specs.Admitting.{mapped, opens, settles, too_few, too_long, unmapped, unplaced}
+use Rattle.cfs_inode.specs.Admitting.{unsettled}
+use Rattle.cfs_inode.specs.Backs.{with_put_back}
+use Rattle.cfs_inode.specs.Covering.{MarksEach, Try}
+use Rattle.cfs_inode.specs.Dispatching.{IsTaken}
+use Rattle.cfs_inode.specs.Ends.{CloseEnd, Settles, Skips, closed, failed, nothing}
+use Rattle.cfs_inode.specs.Finishing.{FailsAt, Failing, FinishEnd, Finishes, SetsSize, SizesFor}
+use Rattle.cfs_inode.specs.Finishing.{closing, failing, going_on, is_right, keeping, retiring}
+use Rattle.cfs_inode.specs.Finishing.{unfinished, writing}
+use Rattle.cfs_inode.specs.Mapping.{Tagged, TagsEach}
+use Rattle.cfs_inode.specs.Marking.{Marks}
+use Rattle.cfs_inode.specs.Tagging.{Blocks}
+use Rattle.cfs_inode.specs.Trims.{TrimEnd, Trims}
+use Rattle.cfs_inode.specs.Trims as trims
+use Rattle.cfs_inode.specs.View.{Held, Seens, StateView}
+use Rattle.cfs_granted.specs.Granted.{does_doubt_pass}
+use Rattle.cfs_granted.proofs.Standing.{all-filter}
+
+-- the grants of all entries pass the test
+abbrev pub do_entries_pass : {S : Type 0} → (ℕ → Bool) → List (Pending S) → Bool
+do_entries_pass test entries = list_all (λ e. test e.grant) entries
+
+-- The same reads are pending. Where the grants of what was pending pass a test, so do those of what
+-- is. The region of the size word has as many words.
+pub record Granting (test : ℕ → Bool) (old new : StateView) : Type 0 where
+  pub reads : new.tracker.reads ≡ old.tracker.reads
+  pub entries : do_entries_pass test old.tracker.entries ≡ true →
+      do_entries_pass test new.tracker.entries ≡ true
+  pub doubt : does_doubt_pass test old.tracker.doubt ≡ true →
+      does_doubt_pass test new.tracker.doubt ≡ true
+  pub word : length (words_of new.size) ≡ length (words_of old.size)
+
+pub granting-all : (test : ℕ → Bool) (old : StateView) → Granting test old old
+granting-all test old = record {
+  reads = refl;
+  entries = λ all. all;
+  doubt = λ here. here;
+  word = refl;
+}
+
+pub granting-to : (test : ℕ → Bool) (old mid new : StateView) → new ≡ mid →
+    Granting test old mid → Granting test old new
+granting-to test old mid new same granting =
+    subst (λ (s : StateView). Granting test old s) (sym same) granting
+
+pub granting-is : (test : ℕ → Bool) (old new : StateView) → new ≡ old → Granting test old new
+granting-is test old new same = granting-to test old old new same (granting-all test old)
+
+pub granting-then : (test : ℕ → Bool) (old mid new : StateView) → Granting test old mid →
+    Granting test mid new → Granting test old new
+granting-then test old mid new first second = record {
+  reads = second.reads ∙ first.reads;
+  entries = λ all. second.entries (first.entries all);
+  doubt = λ here. second.doubt (first.doubt here);
+  word = second.word ∙ first.word;
+}
+
+-- the entries and the size word are changed alone
+granting-sized : (test : ℕ → Bool) (old mid new : StateView) → new ≡ mid →
+    mid.tracker.reads ≡ old.tracker.reads → mid.tracker.doubt ≡ old.tracker.doubt →
+    length (words_of mid.size) ≡ length (words_of old.size) →
+    (do_entries_pass test old.tracker.entries ≡ true →
+    do_entries_pass test mid.tracker.entries ≡ true) → Granting test old new
+granting-sized test old mid new same reads doubt word entries =
+    granting-to test old mid new same (record {
+      reads = reads;
+      entries = entries;
+      doubt = λ here. ap (λ d. does_doubt_pass test d) doubt ∙ here;
+      word = word;
+    })
+
+-- the entries alone
+granting-entries : (test : ℕ → Bool) (old mid new : StateView) → new ≡ mid →
+    mid.tracker.reads ≡ old.tracker.reads → mid.tracker.doubt ≡ old.tracker.doubt →
+    mid.size ≡ old.size →
+    (do_entries_pass test old.tracker.entries ≡ true →
+    do_entries_pass test mid.tracker.entries ≡ true) → Granting test old new
+granting-entries test old mid new same reads doubt size entries =
+    granting-sized test old mid new same reads doubt (ap (λ s. length (words_of s)) size) entries
+
+-- one of them becomes another with the same grant
+with-same : {S : Type 0} (test : ℕ → Bool) (place : ℕ) (change : Pending S → Pending S) →
+    ((entry : Pending S) → (change entry).grant ≡ entry.grant) → (entries : List (Pending S)) →
+    do_entries_pass test entries ≡ true →
+    do_entries_pass test (with_entry place change entries) ≡ true
+with-same test place change same [] all = refl
+with-same test place change same (entry ∷ entries) all =
+    let parts = and_parts (test entry.grant) (do_entries_pass test entries) all in
+    elim (cases_Bool (is_at place entry)) [
+      | inl here ↦ rw here (and_from (test (change entry).grant) (do_entries_pass test entries)
+          (ap test (same entry) ∙ parts.0) parts.1)
+      | inr there ↦ rw there (and_from (test entry.grant)
+          (do_entries_pass test (with_entry place change entries)) parts.0
+          (with-same test place change same entries parts.1))
+    ]
+
+-- ---- gates are closed
+
+pub granting-skip : (test : ℕ → Bool) (obeys : Bool) (place : ℕ) (end : CloseEnd)
+    (asked_old : List Asked) (old : StateView) (asked_new : List Asked) (new : StateView) →
+    Skips obeys place end asked_old old asked_new new → Granting test old new
+granting-skip test obeys place (closed slots) asked_old old asked_new new did =
+    granting-entries test old _ new did.2.1 refl refl refl
+    (all-filter (λ e. test e.grant) _ old.tracker.entries)
+granting-skip test obeys place nothing asked_old old asked_new new did =
+    granting-is test old new did.1.1
+granting-skip test obeys place failed asked_old old asked_new new did =
+    granting-entries test old _ new did.3.1 refl refl refl
+    (with-same test place _ (λ entry. refl) old.tracker.entries)
+
+doubt-with : (test : ℕ → Bool) (doubt : Option (InDoubt Seens)) (slots : Seens) →
+    does_doubt_pass test doubt ≡ true →
+    does_doubt_pass test (with_slots (Some slots) doubt) ≡ true
+doubt-with test None slots here = refl
+doubt-with test (Some doubt) slots here = here
+
+pub granting-settle : (test : ℕ → Bool) (obeys : Bool) (end : CloseEnd) (asked_old : List Asked)
+    (old : StateView) (asked_new : List Asked) (new : StateView) →
+    Settles obeys end asked_old old asked_new new → Granting test old new
+granting-settle test obeys (closed slots) asked_old old asked_new new did =
+    granting-to test old _ new did.2.1
+    (record { reads = refl; entries = λ all. all; doubt = λ here. refl; word = refl })
+granting-settle test obeys nothing asked_old old asked_new new did =
+    granting-is test old new did.1.1
+granting-settle test obeys failed asked_old old asked_new new did =
+    granting-to test old _ new did.3.1 (record {
+      reads = refl;
+      entries = λ all. all;
+      doubt = λ here. doubt-with test old.tracker.doubt did.1 here;
+      word = refl;
+    })
+
+pub granting-trim : (test : ℕ → Bool) (obeys keeps : Bool) (end : TrimEnd) (asked_old : List Asked)
+    (old : StateView) (asked_new : List Asked) (new : StateView) →
+    Trims obeys keeps end asked_old old asked_new new → Granting test old new
+granting-trim test obeys keeps (trims.freed block) asked_old old asked_new new did =
+    granting-entries test old _ new did.3.1.1 refl refl refl (λ all. all)
+granting-trim test obeys keeps trims.nothing asked_old old asked_new new did =
+    granting-is test old new did.1.1
+granting-trim test obeys keeps trims.failed asked_old old asked_new new did =
+    granting-entries test old _ new did.4.1.1 refl refl refl (λ all. all)
+
+-- ---- the size word is set
+
+-- its region has as many words as before
+pub sized-same : (obeys right : Bool) (wanted : ℕ) (answer : SizeAnswer) (asked_old : List Asked)
+    (old : Seen WordStep) (asked_new : List Asked) (new : Seen WordStep) →
+    SetsSize obeys right wanted answer asked_old old asked_new new →
+    length (words_of new) ≡ length (words_of old)
+sized-same obeys true wanted went.Set asked_old old asked_new new did =
+    ap (λ s. length (words_of s)) did.1
+sized-same obeys false wanted went.Set asked_old old asked_new new did = did.size
+sized-same obeys true wanted went.Unwritten asked_old old asked_new new did = did.0.size
+sized-same obeys false wanted went.Unwritten asked_old old asked_new new did = did.0.size
+sized-same obeys true wanted went.Unkept asked_old old asked_new new did = did.0.size
+sized-same obeys false wanted went.Unkept asked_old old asked_new new did = did.0.size
+
+sizes-same : (obeys : Bool) (old : StateView) (place : ℕ) (answer : SizeAnswer)
+    (asked_old asked_new : List Asked) (size : Seen WordStep) →
+    SizesFor obeys old place answer asked_old asked_new size →
+    length (words_of size) ≡ length (words_of old.size)
+sizes-same obeys old place answer asked_old asked_new size did =
+    sized-same obeys
+    (is_right old.tracker.stored old.tracker.is_sure (size_after old.tracker place))
+    (size_after old.tracker place) answer asked_old old.size asked_new size did
+
+-- ---- jobs
+
+pub granting-taken : (test : ℕ → Bool) (place : ℕ) (job : JobView) (old new : StateView) →
+    IsTaken place job old new → Granting test old new
+granting-taken test place job old new taken =
+    granting-entries test old _ new taken.view refl refl refl
+    (with-same test place _ (λ entry. refl) old.tracker.entries)
+
+granting-failing : (test : ℕ → Bool) (obeys : Bool) (at : Failing) (asked_old : List Asked)
+    (old : StateView) (job : JobView) (asked_new : List Asked) (new : StateView) →
+    FailsAt obeys at asked_old old job asked_new new → Granting test old new
+granting-failing test obeys writing asked_old old job asked_new new did =
+    granting-sized test old _ new did.2 refl refl
+    (sizes-same obeys old job.place went.Unwritten asked_old asked_new did.0 did.1)
+    (with-same test job.place _ (λ entry. refl) old.tracker.entries)
+granting-failing test obeys keeping asked_old old job asked_new new did =
+    granting-sized test old _ new did.2 refl refl
+    (sizes-same obeys old job.place went.Unkept asked_old asked_new did.0 did.1)
+    (with-same test job.place _ (λ entry. refl) old.tracker.entries)
+granting-failing test obeys closing asked_old old job asked_new new did =
+    granting-sized test old _ new did.3 refl refl
+    (sizes-same obeys old job.place went.Set asked_old did.2.asked did.0 did.2.sized)
+    (with-same test job.place _ (λ entry. refl) old.tracker.entries)
+
+pub granting-finish : (test : ℕ → Bool) (obeys : Bool) (end : FinishEnd) (asked_old : List Asked)
+    (old : StateView) (job : JobView) (asked_new : List Asked) (new : StateView) →
+    Finishes obeys end asked_old old job asked_new new → Granting test old new
+granting-finish test obeys (retiring slots) asked_old old job asked_new new did =
+    granting-sized test old _ new did.3 refl refl
+    (sizes-same obeys old job.place went.Set asked_old did.2.asked did.0 did.2.sized)
+    (all-filter (λ e. test e.grant) _ old.tracker.entries)
+granting-finish test obeys going_on asked_old old job asked_new new did =
+    granting-entries test old _ new did.3 refl refl refl
+    (with-same test job.place _ (λ entry. refl) old.tracker.entries)
+granting-finish test obeys (unfinished back) asked_old old job asked_new new did =
+    granting-is test old new did.3
+granting-finish test obeys failing asked_old old job asked_new new did =
+    granting-failing test obeys did.0 asked_old old job asked_new new did.2
+
+pub granting-put_back : (test : ℕ → Bool) (old new : StateView) (job : JobView) →
+    new ≡ with_put_back old.size job old → Granting test old new
+granting-put_back test old new job is =
+    granting-entries test old _ new is refl refl refl
+    (with-same test job.place _ (λ entry. refl) old.tracker.entries)
+
+-- ---- admissions
+
+granting-tags : (test : ℕ → Bool) (obeys keeps : Bool) (span : Span) (tries : List Tagged)
+    (asked_old : List Asked) (stock_old : Blocks) (old : StateView) (asked_new : List Asked)
+    (stock_new : Blocks) (new : StateView) →
+    TagsEach obeys keeps span tries asked_old stock_old old asked_new stock_new new →
+    Granting test old new
+granting-tags test obeys keeps span [] asked_old stock_old old asked_new stock_new new did =
+    granting-is test old new did.1.1
+granting-tags test obeys keeps span (try ∷ tries) asked_old stock_old old asked_new stock_new new
+    did =
+    granting-then test old did.2 new
+    (granting-entries test old _ did.2 did.4.0.new_is refl refl refl (λ all. all))
+    (granting-tags test obeys keeps span tries did.0 did.1 did.2 asked_new stock_new new did.4.1)
+
+granting-mark : (test : ℕ → Bool) (obeys : Bool) (place : ℕ) (answer : MarkAnswer)
+    (asked_old : List Asked) (old : StateView) (asked_new : List Asked) (new : StateView) →
+    Marks obeys place answer asked_old old asked_new new → Granting test old new
+granting-mark test obeys place marks.Marked asked_old old asked_new new did =
+    granting-entries test old _ new did.3.1 refl refl refl
+    (with-same test place _ (λ entry. refl) old.tracker.entries)
+granting-mark test obeys place marks.Nothing asked_old old asked_new new did =
+    granting-is test old new did.1.1
+granting-mark test obeys place marks.Failed asked_old old asked_new new did =
+    granting-entries test old _ new did.3.1 refl refl refl
+    (with-same test place _ (λ entry. refl) old.tracker.entries)
+
+granting-marks : (test : ℕ → Bool) (obeys : Bool) (tries : List Try) (asked_old : List Asked)
+    (old : StateView) (asked_new : List Asked) (new : StateView) →
+    MarksEach obeys tries asked_old old asked_new new → Granting test old new
+granting-marks test obeys [] asked_old old asked_new new did = granting-is test old new did.1
+granting-marks test obeys (try ∷ tries) asked_old old asked_new new did =
+    granting-then test old did.1 new
+    (granting-mark test obeys try.place try.answer asked_old old did.0 did.1 did.2.0)
+    (granting-marks test obeys tries did.0 did.1 asked_new new did.2.1)
+
+granting-ready : (test : ℕ → Bool) (obeys : Bool) (request : Request) (grant : ℕ) (staged : Seens)
+    (asked_old : List Asked) (old : StateView) (asked_new : List Asked) (new : StateView)
+    (end : AdmitEnd) → test grant ≡ true →
+    AdmitsReady obeys request grant staged asked_old old asked_new new end → Granting test old new
+granting-ready test obeys request grant staged asked_old old asked_new new _ passes
+    (opens place marked asked mid gate covers) =
+    granting-then test old mid new
+    (granting-entries test old _ mid gate.2.1 refl refl refl
+    (λ all. list_all-append (λ e. test e.grant) old.tracker.entries _
+    ∙ and_from _ _ all (and_from (test grant) true passes refl)))
+    (granting-marks test obeys covers.tries asked mid asked_new new covers.each)
+granting-ready test obeys request grant staged asked_old old asked_new new _ passes (doubts gate) =
+    granting-to test old _ new gate.1.1
+    (record { reads = refl; entries = λ all. all; doubt = λ here. passes; word = refl })
+
+granting-settled : (test : ℕ → Bool) (obeys tags keeps : Bool) (request : Request) (grant : ℕ)
+    (staged : Seens) (asked_old : List Asked) (stock_old : Blocks) (old : StateView)
+    (asked_new : List Asked) (stock_new : Blocks) (new : StateView) (end : AdmitEnd) →
+    test grant ≡ true →
+    AdmitsSettled obeys tags keeps request grant staged asked_old stock_old old asked_new stock_new
+    new end → Granting test old new
+granting-settled test obeys tags keeps request grant staged asked_old stock_old old asked_new
+    stock_new new _ passes (unplaced now places stock same) = granting-is test old new same
+granting-settled test obeys tags keeps request grant staged asked_old stock_old old asked_new
+    stock_new new _ passes (unmapped now asked places maps) =
+    granting-tags test tags keeps _ maps.tries asked stock_old old asked_new stock_new new maps.each
+granting-settled test obeys tags keeps request grant staged asked_old stock_old old asked_new
+    stock_new new _ passes (mapped now asked behind mid end places maps ready) =
+    granting-then test old mid new
+    (granting-tags test tags keeps _ maps.tries asked stock_old old behind stock_new mid maps.each)
+    (granting-ready test obeys request grant now behind mid asked_new new end passes ready)
+
+pub granting-admit : (test : ℕ → Bool) (obeys tags keeps : Bool) (request : Request) (grant : ℕ)
+    (staged : Seens) (asked_old : List Asked) (stock_old : Blocks) (old : StateView)
+    (asked_new : List Asked) (stock_new : Blocks) (new : StateView) (close : CloseEnd)
+    (end : AdmitEnd) → test grant ≡ true →
+    Admits obeys tags keeps request grant staged asked_old stock_old old asked_new stock_new new
+    close end → Granting test old new
+granting-admit test obeys tags keeps request grant staged asked_old stock_old old asked_new
+    stock_new new _ _ passes (too_long long asked stock same) = granting-is test old new same
+granting-admit test obeys tags keeps request grant staged asked_old stock_old old asked_new
+    stock_new new _ _ passes (too_few fits few asked stock same) = granting-is test old new same
+granting-admit test obeys tags keeps request grant staged asked_old stock_old old asked_new
+    stock_new new _ _ passes (unsettled enough settle stock) =
+    granting-settle test obeys failed asked_old old asked_new new settle
+granting-admit test obeys tags keeps request grant staged asked_old stock_old old asked_new
+    stock_new new _ _ passes (settles close asked mid end enough settle none did) =
+    granting-then test old mid new
+    (granting-settle test obeys close asked_old old asked mid settle)
+    (granting-settled test obeys tags keeps request grant staged asked stock_old mid asked_new
+    stock_new new end passes did)
