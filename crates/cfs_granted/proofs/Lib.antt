@@ -1,2 +1,5 @@
 pub mod Standing
 pub mod Grantings
+pub mod Passings
+pub mod Knowing
+pub mod Readings

@@ -1,6 +1,6 @@
 -- Grants that stand, before and behind a row is given or taken.
 use Rattle.std.proofs.Common.{◌≡◌, ◌∙◌, ◌||◌, ◌&&◌, ℕ, Bool, true, false, List, [], ◌∷◌, Option, Some, None}
-use Rattle.std.proofs.Common.{absurd, ap, filter, inl, inr, length, map, refl, set, suc, sym, zero}
+use Rattle.std.proofs.Common.{ap, filter, get_or, inl, inr, length, map, refl, set, suc, sym, zero}
 use Rattle.std.specs.List.{list_all}
 use Rattle.std.proofs.lemmas.Bool.{and_from, and_parts, cases_Bool, or_right, or_left}
 use Rattle.cfs_grants.specs.declared.grant.Grant.{Grant}
@@ -15,8 +15,8 @@ all-filter p q [] all = refl
 all-filter p q (x ∷ xs) all =
     let parts = and_parts (p x) (list_all p xs) all in
     elim (cases_Bool (q x)) [
-      | inl yes ↦ rw yes (and_from (p x) (list_all p (filter q xs)) parts.0 (all-filter p q xs parts.1))
-      | inr no ↦ rw no (all-filter p q xs parts.1)
+      | inl passes ↦ rw passes (and_from (p x) (list_all p (filter q xs)) parts.0 (all-filter p q xs parts.1))
+      | inr fails ↦ rw fails (all-filter p q xs parts.1)
     ]
 
 pub all-weaker : {X : Type 0} (p q : X → Bool) (xs : List X) →
@@ -37,12 +37,9 @@ writer-stands number (Some grant ∷ rows) writes =
     elim (cases_Bool (is_numbered number (Some grant))) [
       | inl same ↦ or_left (is_numbered number (Some grant)) (stands number rows) same
       | inr other ↦ or_right (is_numbered number (Some grant)) (stands number rows)
-          (writer-stands number rows (by-other grant rows other writes))
+          (writer-stands number rows
+          (sym (ap (λ b. (b && grant.writes) || may_write number rows) other) ∙ writes))
     ]
-  where
-    by-other : (grant : Grant) (rows : Rows) → is_numbered number (Some grant) ≡ false →
-        may_write number (Some grant ∷ rows) ≡ true → may_write number rows ≡ true
-    by-other grant rows other writes = rw other in writes writes
 
 -- what stood stands yet, behind a row is given that had none
 pub stands-given : (number queue : ℕ) (grant : Grant) (rows : Rows) →
@@ -58,4 +55,19 @@ stands-given number (suc queue) grant (row ∷ rows) none there =
       | inr other ↦ or_right (is_numbered number row) (stands number (set rows queue (Some grant)))
           (stands-given number queue grant rows none
           (sym (ap (λ b. b || stands number rows) other) ∙ there))
+    ]
+
+-- and where it has another number than the grant that a row gives up
+pub stands-closed : (number queue : ℕ) (rows : Rows) →
+    is_numbered number (get_or rows queue None) ≡ false → stands number rows ≡ true →
+    stands number (set rows queue None) ≡ true
+stands-closed number queue [] other there = there
+stands-closed number zero (row ∷ rows) other there =
+    sym (ap (λ b. b || stands number rows) other) ∙ there
+stands-closed number (suc queue) (row ∷ rows) other there =
+    elim (cases_Bool (is_numbered number row)) [
+      | inl same ↦ or_left (is_numbered number row) (stands number (set rows queue None)) same
+      | inr apart ↦ or_right (is_numbered number row) (stands number (set rows queue None))
+          (stands-closed number queue rows other
+          (sym (ap (λ b. b || stands number rows) apart) ∙ there))
     ]

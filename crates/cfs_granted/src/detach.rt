@@ -1,14 +1,14 @@
 //! Grants are taken away.
 
-ghost use Rattle.std.specs.Prelude.{◌≡◌, None, find};
+ghost use Rattle.std.specs.Prelude.{◌≡◌, None};
 ghost use Rattle.cfs_active.specs.Makes.{QuietlyMakes};
 ghost use Rattle.cfs_tracker.specs.Listing.{listing};
 ghost use Rattle.cfs_granted.specs.Detaching.{all_dropped, detach_events, detached};
-ghost use Rattle.cfs_granted.specs.Readers.{is_under, places_under};
+ghost use Rattle.cfs_granted.specs.Readers.{places_under};
 ghost use Rattle.cfs_granted.specs.View.{life_view};
 
+use crate::find::first_under;
 use crate::life::Life;
-use crate::reader::Reader;
 use crate::rows::queue_of;
 
 impl Life {
@@ -37,11 +37,4 @@ impl Life {
             self.drop_read(reader.place);
         }
     }
-}
-
-/// The first of these that is under a grant.
-fn first_under(readers: &[Reader], number: u64) -> Option<Reader>
-    ensures { result ≡ find (λ r. is_under number r) readers.now }
-{
-    readers.iter().find(|reader| reader.grant == number).copied()
 }

@@ -9,6 +9,7 @@ mod denied;
 mod detach;
 mod ending;
 mod file_state;
+mod find;
 mod free;
 mod life;
 mod new;

@@ -14,6 +14,7 @@ ghost use Rattle.cfs_granted.specs.Rows.{may_ask};
 ghost use Rattle.cfs_granted.specs.View.{life_view, query_room, reader_room};
 
 use crate::denied::Denied;
+use crate::find::drop_reader;
 use crate::life::Life;
 use crate::reader::Reader;
 use crate::rows::may_ask;
@@ -62,7 +63,7 @@ impl Life {
             (life_view self.new).active }
     {
         self.active.drop_read(place);
-        self.readers.retain(|reader| reader.place != place);
+        drop_reader(&mut self.readers, place);
     }
 
     /// Answers the pending read at a place, as `ActiveInode::serve` does.
@@ -82,7 +83,7 @@ impl Life {
     {
         let answer = self.active.serve(power, place, out);
         if answer == ServeAnswer::Served {
-            self.readers.retain(|reader| reader.place != place);
+            drop_reader(&mut self.readers, place);
         }
         answer
     }
