@@ -1,10 +1,10 @@
 -- Reads are asked for and end, and of each it is kept under which grant.
-use Rattle.std.proofs.Common.{◌≡◌, ◌∙◌, ◌+◌, ◌++◌, ◌<◌, ◌==◌, ◌&&◌, ◌||◌, ℕ, Bool, true, false, not}
+use Rattle.std.proofs.Common.{◌≡◌, ◌∙◌, ◌+◌, ◌++◌, ◌<◌, ◌≤◌, ◌==◌, ◌&&◌, ◌||◌, ℕ, Bool, true, false, not}
 use Rattle.std.proofs.Common.{List, [], ◌∷◌, Option, Some, None, ap, arith, drop, filter, find, get_or}
-use Rattle.std.proofs.Common.{inl, inr, length, map, refl, sym}
+use Rattle.std.proofs.Common.{inl, inr, length, map, refl, suc, sym}
 use Rattle.std.specs.Prelude.{is_some}
 use Rattle.std.specs.List.{list_all}
-use Rattle.std.proofs.lemmas.Bool.{and_from, and_parts, cases_Bool, or_left, or_right, true≢false}
+use Rattle.std.proofs.lemmas.Bool.{and_from, cases_Bool, eq-eqb, or_left, or_right, true≢false}
 use Rattle.std.proofs.lemmas.List.{map-append}
 use Rattle.std.proofs.lemmas.List.Folds.{list_all-append}
 use Rattle.cfs_file.specs.declared.request.Request.{Request}
@@ -40,7 +40,7 @@ pub asked-granted : (rows : Rows) (readers now : List Reader) (old new : StateVi
     now ≡ readers ++ record { place = old.tracker.count + 1; grant = grant } ∷ [] →
     IsGranted rows readers old → IsGranted rows now new
 asked-granted rows readers now old new request grant there is are known =
-    rw [is, are] (record {
+    rw is (rw are (record {
       many = known.many;
       places = map-append reader_place readers _
           ∙ ap (λ ps. ps ++ (old.tracker.count + 1) ∷ []) known.places
@@ -50,7 +50,7 @@ asked-granted rows readers now old new request grant there is are known =
       entries = known.entries;
       doubt = known.doubt;
       word = known.word;
-    })
+    }))
 
 -- ---- one ends
 
@@ -67,7 +67,7 @@ pub ended-granted : (rows : Rows) (readers now : List Reader) (old new : StateVi
     new ≡ without_read place old → now ≡ without_reader place readers →
     IsGranted rows readers old → IsGranted rows now new
 ended-granted rows readers now old new place is are known =
-    rw [is, are] (record {
+    rw is (rw are (record {
       many = known.many;
       places = map-kept reader_place (λ n. not (n == place)) readers
           ∙ ap (λ ns. filter (λ (n : ℕ). not (n == place)) ns) known.places
@@ -76,9 +76,19 @@ ended-granted rows readers now old new place is are known =
       entries = known.entries;
       doubt = known.doubt;
       word = known.word;
-    })
+    }))
 
 -- ---- those under a grant
+
+some-none : {X : Type 0} (x : X) → Some x ≡ None → ⊥
+some-none x is = true≢false (ap (λ o. is_some o) is)
+
+some-is : {X : Type 0} (x y : X) → Some x ≡ Some y → x ≡ y
+some-is x y is = ap (λ o. or_else x o) is
+  where
+    or_else : {X : Type 0} → X → Option X → X
+    or_else x None = x
+    or_else x (Some y) = y
 
 -- the read of one that is kept is pending
 pub found-pending : (number : ℕ) (readers : List Reader) (reads : List Reading) (reader : Reader) →
@@ -86,13 +96,67 @@ pub found-pending : (number : ℕ) (readers : List Reader) (reads : List Reading
     find (λ r. is_under number r) readers ≡ Some reader →
     is_some (read_at reads reader.place) ≡ true
 found-pending number [] reads reader same found = absurd (some-none reader (sym found))
-  where
-    some-none : {X : Type 0} (x : X) → Some x ≡ None → ⊥
-    some-none x is = true≢false (ap (λ o. is_some o) is)
 found-pending number (x ∷ xs) [] reader same found =
     absurd (omega (arith, ap (λ ns. length ns) same))
 found-pending number (x ∷ xs) (y ∷ ys) reader same found =
+    let heads : x.place ≡ y.place = ap (λ ns. get_or ns 0 0) same in
+    let tails : map reader_place xs ≡ map reading_place ys = ap (λ ns. drop 1 ns) same in
     elim (cases_Bool (is_under number x)) [
-      | inl own ↦ ?
-      | inr other ↦ ?
+      | inl own ↦
+          let first : find (λ r. is_under number r) (x ∷ xs) ≡ Some x = rw own refl in
+          let is : x ≡ reader = some-is x reader (sym first ∙ found) in
+          let here : is_read_at reader.place y ≡ true =
+          eq-eqb y.place reader.place (sym heads ∙ ap (λ (r : Reader). r.place) is) in
+          rw here refl
+      | inr other ↦
+          let later : find (λ r. is_under number r) (x ∷ xs) ≡ find (λ r. is_under number r) xs =
+          rw other refl in
+          let rest = found-pending number xs ys reader tails (sym later ∙ found) in
+          elim (cases_Bool (is_read_at reader.place y)) [
+            | inl here ↦ rw here refl
+            | inr there ↦ rw there rest
+          ]
+    ]
+
+-- and without it there are fewer
+pub found-fewer : (number : ℕ) (readers : List Reader) (reader : Reader) →
+    find (λ r. is_under number r) readers ≡ Some reader →
+    length (without_reader reader.place readers) < length readers
+found-fewer number [] reader found = absurd (some-none reader (sym found))
+found-fewer number (x ∷ xs) reader found =
+    elim (cases_Bool (is_reader_at reader.place x)) [
+      | inl here ↦
+          let shorter : length (without_reader reader.place (x ∷ xs))
+          ≡ length (without_reader reader.place xs) = rw here refl in
+          omega (arith, shorter, length-without reader.place xs)
+      | inr there ↦
+          let longer : length (without_reader reader.place (x ∷ xs))
+          ≡ suc (length (without_reader reader.place xs)) = rw there refl in
+          omega (arith, longer, found-fewer number xs reader (elsewhere x xs found there))
+    ]
+  where
+    length-without : (place : ℕ) (xs : List Reader) →
+        length (without_reader place xs) ≤ length xs
+    length-without place [] = omega arith
+    length-without place (x ∷ xs) = elim (cases_Bool (is_reader_at place x)) [
+      | inl here ↦
+          let shorter : length (without_reader place (x ∷ xs)) ≡ length (without_reader place xs) =
+          rw here refl in omega (arith, shorter, length-without place xs)
+      | inr there ↦
+          let longer : length (without_reader place (x ∷ xs))
+          ≡ suc (length (without_reader place xs)) = rw there refl in
+          omega (arith, longer, length-without place xs)
+    ]
+    elsewhere : (x : Reader) (xs : List Reader) →
+        find (λ r. is_under number r) (x ∷ xs) ≡ Some reader →
+        is_reader_at reader.place x ≡ false → find (λ r. is_under number r) xs ≡ Some reader
+    elsewhere x xs found there = elim (cases_Bool (is_under number x)) [
+      | inl own ↦
+          let first : find (λ r. is_under number r) (x ∷ xs) ≡ Some x = rw own refl in
+          let is : x ≡ reader = some-is x reader (sym first ∙ found) in
+          absurd (true≢false (sym (eq-eqb x.place reader.place (ap (λ (r : Reader). r.place) is))
+          ∙ there))
+      | inr other ↦
+          let later : find (λ r. is_under number r) (x ∷ xs) ≡ find (λ r. is_under number r) xs =
+          rw other refl in sym later ∙ found
     ]

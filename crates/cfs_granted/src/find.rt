@@ -1,7 +1,6 @@
-//! Pending reads are found by their grants, and dropped.
+//! Pending reads are kept, found by their grants, and dropped.
 
-ghost use Rattle.std.specs.Prelude.{◌≡◌, find};
-ghost use Rattle.std.specs.Prelude.{vec_capacity};
+ghost use Rattle.std.specs.Prelude.{◌≡◌, ◌<◌, [], ◌∷◌, ◌++◌, find, vec_capacity, vec_len};
 ghost use Rattle.cfs_granted.specs.Readers.{is_under, without_reader};
 
 use crate::reader::Reader;
@@ -16,6 +15,17 @@ pub(crate) fn first_under(readers: &[Reader], number: u64) -> Option<Reader>
         }
     }
     None
+}
+
+/// Keeps one more, for which there is room.
+pub(crate) fn keep_reader(readers: &mut Vec<Reader>, reader: Reader)
+    requires { vec_len readers.old < vec_capacity readers.old }
+    ensures { readers.new.items ≡ readers.old.items ++ reader ∷ [] }
+{
+    match readers.push(reader) {
+        Ok(()) => {}
+        Err(_) => unreachable!(),
+    }
 }
 
 /// Drops what is at a place.

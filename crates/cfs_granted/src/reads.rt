@@ -14,7 +14,7 @@ ghost use Rattle.cfs_granted.specs.Rows.{may_ask};
 ghost use Rattle.cfs_granted.specs.View.{life_view, query_room, reader_room};
 
 use crate::denied::Denied;
-use crate::find::drop_reader;
+use crate::find::{drop_reader, keep_reader};
 use crate::life::Life;
 use crate::reader::Reader;
 use crate::rows::may_ask;
@@ -48,10 +48,8 @@ impl Life {
         }
         let reading = self.active.admit_read(request);
         let place = reading.place;
-        match self.readers.push(Reader { place, grant }) {
-            Ok(()) => Ok(reading),
-            Err(_) => unreachable!(),
-        }
+        keep_reader(&mut self.readers, Reader { place, grant });
+        Ok(reading)
     }
 
     /// The read or sync at a place is dropped. No device is asked for a step.
@@ -82,8 +80,9 @@ impl Life {
             readers_behind place result (life_view self.old).readers }
     {
         let answer = self.active.serve(power, place, out);
-        if answer == ServeAnswer::Served {
-            drop_reader(&mut self.readers, place);
+        match answer {
+            ServeAnswer::Served => drop_reader(&mut self.readers, place),
+            ServeAnswer::NotYet(_) | ServeAnswer::Failed => {}
         }
         answer
     }
