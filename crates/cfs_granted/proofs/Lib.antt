@@ -3,3 +3,4 @@ pub mod Grantings
 pub mod Passings
 pub mod Knowing
 pub mod Readings
+pub mod Detachings

@@ -1,6 +1,6 @@
 //! Grants are taken away.
 
-ghost use Rattle.std.specs.Prelude.{◌≡◌, None};
+ghost use Rattle.std.specs.Prelude.{◌≡◌, [], None};
 ghost use Rattle.cfs_active.specs.Makes.{QuietlyMakes};
 ghost use Rattle.cfs_tracker.specs.Listing.{listing};
 ghost use Rattle.cfs_granted.specs.Detaching.{all_dropped, detach_events, detached};
@@ -32,6 +32,11 @@ impl Life {
             all_dropped (places_under number (life_view self.old).readers) (life_view self.old) }
         ensures makes { QuietlyMakes (detach_events number (life_view self.old))
             (life_view self.old).active (life_view self.new).active }
+        ensures none { places_under number (life_view self.new).readers ≡ [] }
+        ensures entries { (life_view self.new).active.state.tracker.entries ≡
+            (life_view self.old).active.state.tracker.entries }
+        ensures doubt { (life_view self.new).active.state.tracker.doubt ≡
+            (life_view self.old).active.state.tracker.doubt }
     {
         while let Some(reader) = first_under(&self.readers, number) {
             self.drop_read(reader.place);
