@@ -1,8 +1,8 @@
 -- A grant is taken away, and the reads under it are dropped.
-use Rattle.std.proofs.Common.{◌≡◌, ◌∙◌, ◌<◌, ◌≤◌, ◌==◌, ◌&&◌, ◌++◌, ℕ, Bool, true, false, not, List, []}
+use Rattle.std.proofs.Common.{◌≡◌, ◌∙◌, ◌≤◌, ◌==◌, ◌&&◌, ◌++◌, ℕ, Bool, true, false, not, List, []}
 use Rattle.std.proofs.Common.{◌∷◌, Option, Some, None, ap, arith, find, get_or, inl, inr, length, map}
 use Rattle.std.proofs.Common.{refl, set, subst, sym}
-use Rattle.std.specs.Prelude.{is_some, nat_lt}
+use Rattle.std.specs.Prelude.{nat_lt}
 use Rattle.std.specs.List.{list_all, position}
 use Rattle.std.proofs.Math.Logic.{∥∥₁_elim}
 use Rattle.std.proofs.Props.{props}
@@ -15,7 +15,6 @@ use Rattle.cfs_core.specs.declared.event.Event.TheVariants as events
 use Rattle.cfs_core.specs.declared.inode_core.Core.{Core}
 use Rattle.cfs_grants.specs.declared.grant.Grant.{Grant}
 use Rattle.cfs_job.specs.Views.{JobView}
-use Rattle.cfs_pmem.specs.declared.trace.Asked.{Asked}
 use Rattle.cfs_tracker.specs.declared.in_doubt.InDoubt.{InDoubt}
 use Rattle.cfs_tracker.specs.declared.listing.EntryState.TheVariants as states
 use Rattle.cfs_tracker.specs.declared.listing.Listed.{Listed}
@@ -31,16 +30,14 @@ use Rattle.cfs_inode.proofs.Goods.{steps-in}
 use Rattle.cfs_inode.proofs.Resting.{rests}
 use Rattle.cfs_active.specs.Known.{IsActive}
 use Rattle.cfs_active.specs.Makes.{QuietlyMakes}
-use Rattle.cfs_active.specs.View.{ActiveView}
 use Rattle.cfs_granted.specs.declared.reader.Reader.{Reader}
 use Rattle.cfs_granted.specs.Asking.{dropped}
 use Rattle.cfs_granted.specs.Detaching.{all_dropped, drop_events}
 use Rattle.cfs_granted.specs.Granted.{IsGranted, does_doubt_pass}
 use Rattle.cfs_granted.specs.Readers.{is_under, places_under, reader_place, without_reader}
-use Rattle.cfs_granted.specs.Rows.{Rows, closed_at, is_numbered, stands, without_grant}
+use Rattle.cfs_granted.specs.Rows.{Rows, is_numbered, stands}
 use Rattle.cfs_granted.specs.View.{LifeView}
-use Rattle.cfs_granted.proofs.Grantings.{do_entries_pass}
-use Rattle.cfs_granted.proofs.Readings.{first-goes, none-under, readers-rise, some-none}
+use Rattle.cfs_granted.proofs.Readings.{first-goes, readers-rise, some-none}
 use Rattle.cfs_granted.proofs.Standing.{stands-closed}
 
 -- ---- the reads under it

@@ -1,5 +1,5 @@
 -- What each call of a state leaves of the grants that its requests were asked under.
-use Rattle.std.proofs.Common.{◌≡◌, ◌∙◌, ◌+◌, ◌++◌, ◌&&◌, ℕ, Bool, true, false, Option, Some, None}
+use Rattle.std.proofs.Common.{◌≡◌, ◌∙◌, ℕ, Bool, true, false, Option, Some, None}
 use Rattle.std.proofs.Common.{List, [], ◌∷◌, ap, inl, inr, length, refl, subst, sym}
 use Rattle.std.specs.List.{list_all}
 use Rattle.std.proofs.lemmas.Bool.{and_from, and_parts, cases_Bool}
@@ -14,7 +14,6 @@ use Rattle.cfs_tracker.specs.declared.pending.Pending.{Pending}
 use Rattle.cfs_tracker.specs.Finish.{size_after}
 use Rattle.cfs_tracker.specs.Settle.{with_slots}
 use Rattle.cfs_tracker.specs.View.{is_at, with_entry}
-use Rattle.cfs_inode.specs.declared.answers.ServeAnswer.{ServeAnswer}
 use Rattle.cfs_inode.specs.declared.mark_answer.MarkAnswer.{MarkAnswer}
 use Rattle.cfs_inode.specs.declared.mark_answer.MarkAnswer.TheVariants as marks
 use Rattle.cfs_inode.specs.declared.size_answer.SizeAnswer.{SizeAnswer}
@@ -34,7 +33,7 @@ use Rattle.cfs_inode.specs.Marking.{Marks}
 use Rattle.cfs_inode.specs.Tagging.{Blocks}
 use Rattle.cfs_inode.specs.Trims.{TrimEnd, Trims}
 use Rattle.cfs_inode.specs.Trims as trims
-use Rattle.cfs_inode.specs.View.{Held, Seens, StateView}
+use Rattle.cfs_inode.specs.View.{Seens, StateView}
 use Rattle.cfs_granted.specs.Granted.{does_doubt_pass}
 use Rattle.cfs_granted.proofs.Standing.{all-filter}
 

@@ -3,12 +3,10 @@ use Rattle.std.proofs.Common.{◌≡◌, ◌∙◌, ◌+◌, ◌++◌, ◌<◌, 
 use Rattle.std.proofs.Common.{List, [], ◌∷◌, Option, Some, None, ap, arith, drop, filter, find, get_or}
 use Rattle.std.proofs.Common.{inl, inr, length, map, refl, subst, suc, sym}
 use Rattle.std.specs.Prelude.{is_some}
-use Rattle.std.specs.List.{list_all}
 use Rattle.std.proofs.lemmas.Bool.{and_from, cases_Bool, eq-eqb, ne_eqb, or_left, or_right, true≢false}
 use Rattle.std.proofs.lemmas.List.{map-append}
 use Rattle.std.proofs.lemmas.List.Folds.{list_all-append}
 use Rattle.cfs_file.specs.declared.request.Request.{Request}
-use Rattle.cfs_grants.specs.declared.grant.Grant.{Grant}
 use Rattle.cfs_tracker.specs.declared.reading.Reading.{Reading}
 use Rattle.cfs_tracker.specs.Follows.{Rise}
 use Rattle.cfs_tracker.specs.View.{is_read_at, read_at, reading_place}
@@ -18,7 +16,7 @@ use Rattle.cfs_granted.specs.declared.reader.Reader.{Reader}
 use Rattle.cfs_granted.specs.Granted.{IsGranted}
 use Rattle.cfs_granted.specs.Readers.{is_reader_at, is_under, places_under, reader_place}
 use Rattle.cfs_granted.specs.Readers.{without_reader}
-use Rattle.cfs_granted.specs.Rows.{Rows, is_asker, is_numbered, may_ask, stands}
+use Rattle.cfs_granted.specs.Rows.{Rows, is_numbered, may_ask, stands}
 use Rattle.cfs_granted.proofs.Standing.{all-filter}
 
 -- a grant that may ask stands

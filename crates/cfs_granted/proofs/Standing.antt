@@ -1,11 +1,11 @@
 -- Grants that stand, before and behind a row is given or taken.
-use Rattle.std.proofs.Common.{◌≡◌, ◌∙◌, ◌||◌, ◌&&◌, ℕ, Bool, true, false, List, [], ◌∷◌, Option, Some, None}
-use Rattle.std.proofs.Common.{ap, filter, get_or, inl, inr, length, map, refl, set, suc, sym, zero}
+use Rattle.std.proofs.Common.{◌≡◌, ◌∙◌, ◌||◌, ◌&&◌, ℕ, Bool, true, false, List, [], ◌∷◌, Some, None}
+use Rattle.std.proofs.Common.{ap, filter, get_or, inl, inr, refl, set, suc, sym, zero}
 use Rattle.std.specs.List.{list_all}
 use Rattle.std.proofs.lemmas.Bool.{and_from, and_parts, cases_Bool, or_right, or_left}
 use Rattle.cfs_grants.specs.declared.grant.Grant.{Grant}
 use Rattle.cfs_grants.specs.Grants.{grant_at}
-use Rattle.cfs_granted.specs.Rows.{Rows, is_numbered, is_writer, may_write, stands}
+use Rattle.cfs_granted.specs.Rows.{Rows, is_numbered, may_write, stands}
 
 -- ---- lists
 

@@ -1,10 +1,9 @@
 -- A grant is attached to the state of a record.
-use Rattle.std.specs.Prelude.{ℕ, ◌≡◌, ◌==◌, ◌||◌, Bool, true, false, not, Option, Some, None, Result, Ok, Err, List, [], ◌∷◌, if◌then◌else◌, is_some, nat_le, replicate, set}
+use Rattle.std.specs.Prelude.{ℕ, ◌≡◌, ◌==◌, ◌||◌, Bool, true, false, not, Option, Some, None, Result, Ok, Err, [], if◌then◌else◌, is_some, nat_le, replicate, set}
 use Rattle.cfs_grants.specs.declared.grant.Grant.{Grant}
 use Rattle.cfs_grants.specs.Grants.{grant_at}
 use Rattle.cfs_inode.specs.New.{stored_state}
 use Rattle.cfs_pmem.specs.Images.{Seen, WordStep}
-use Rattle.cfs_active.specs.View.{ActiveView}
 use Rattle.cfs_granted.specs.declared.busy.AttachRefusal.{AttachRefusal}
 use Rattle.cfs_granted.specs.declared.busy.AttachRefusal.TheVariants as refusals
 use Rattle.cfs_granted.specs.Rows.{Rows, stands}

@@ -1,5 +1,5 @@
 -- Grants by their numbers, each at its queue.
-use Rattle.std.specs.Prelude.{ℕ, ◌==◌, Bool, true, false, ◌&&◌, ◌||◌, List, [], ◌∷◌, Option, Some, None, set}
+use Rattle.std.specs.Prelude.{ℕ, ◌==◌, Bool, false, ◌&&◌, ◌||◌, List, [], ◌∷◌, Option, Some, None, set}
 use Rattle.std.specs.List.{list_any, position}
 use Rattle.cfs_grants.specs.declared.grant.Grant.{Grant}
 

@@ -1,4 +1,4 @@
-use Rattle.std.proofs.Common.{◌∙◌, ap, sym}
+use Rattle.std.proofs.Common.{◌∙◌, sym}
 use Rattle.cfs_active.specs.View.{active_view}
 use Rattle.cfs_granted.proofs.Knowing.{given-granted, none-is}
 use Rattle.cfs_granted.proofs.life.Life.attach.Goals as goal

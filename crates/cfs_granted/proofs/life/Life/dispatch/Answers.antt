@@ -1,4 +1,3 @@
-use Rattle.cfs_active.specs.Memory.{words_seen}
 use Rattle.cfs_active.specs.View.{active_view}
 use Rattle.cfs_granted.proofs.Passings.{granting-sends}
 use Rattle.cfs_granted.specs.Rows.{stands}
