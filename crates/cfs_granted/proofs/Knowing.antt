@@ -9,23 +9,24 @@ use Rattle.cfs_grants.specs.Grants.{grant_at}
 use Rattle.cfs_tracker.specs.declared.in_doubt.InDoubt.{InDoubt}
 use Rattle.cfs_tracker.specs.View.{reading_place}
 use Rattle.cfs_inode.specs.View.{StateView}
+use Rattle.cfs_active.specs.View.{ActiveView}
 use Rattle.cfs_granted.specs.declared.reader.Reader.{Reader}
 use Rattle.cfs_granted.specs.Granted.{IsGranted, does_doubt_pass}
 use Rattle.cfs_granted.specs.Rows.{Rows, stands}
-use Rattle.cfs_granted.proofs.Grantings.{Granting}
+use Rattle.cfs_granted.proofs.Passings.{Passes}
 use Rattle.cfs_granted.proofs.Standing.{all-weaker, stands-given}
 
--- through a call that changes the state alone
-pub stays-granted : (rows : Rows) (readers : List Reader) (old new : StateView) →
-    Granting (λ n. stands n rows) old new → IsGranted rows readers old →
-    IsGranted rows readers new
-stays-granted rows readers old new granting known = record {
+-- through a call that changes the state and the jobs alone
+pub stays-granted : (rows : Rows) (readers : List Reader) (old new : ActiveView) →
+    Passes (λ n. stands n rows) old new → IsGranted rows readers old.state →
+    IsGranted rows readers new.state
+stays-granted rows readers old new passes known = record {
   many = known.many;
-  places = known.places ∙ ap (λ reads. map reading_place reads) (sym granting.reads);
+  places = known.places ∙ ap (λ reads. map reading_place reads) (sym passes.reads);
   reads = known.reads;
-  entries = granting.entries known.entries;
-  doubt = granting.doubt known.doubt;
-  word = granting.word ∙ known.word;
+  entries = passes.entries known.entries;
+  doubt = passes.doubt known.doubt;
+  word = passes.word ∙ known.word;
 }
 
 -- ---- other grants

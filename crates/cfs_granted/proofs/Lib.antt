@@ -1,5 +1,6 @@
 pub mod Standing
 pub mod Grantings
+pub mod Lendings
 pub mod Passings
 pub mod Knowing
 pub mod Readings

@@ -1,6 +1,7 @@
 pub mod Rows
 pub mod Readers
 pub mod Granted
+pub mod Lending
 pub mod Clean
 pub mod Idle
 pub mod Ending
@@ -8,3 +9,4 @@ pub mod View
 pub mod Attaching
 pub mod Asking
 pub mod Detaching
+pub mod Purging

@@ -2,8 +2,10 @@
 
 ghost use Rattle.cfs_block.specs.MemoryBlocks.{seen_of};
 ghost use Rattle.cfs_active.specs.Memory.{words_seen};
+ghost use Rattle.cfs_active.specs.View.{active_view};
 ghost use Rattle.cfs_inode.specs.View.{state_view};
 ghost use Rattle.cfs_granted.specs.Granted.{IsGranted};
+ghost use Rattle.cfs_granted.specs.Lending.{IsWithJobs};
 
 use crate::reader::Reader;
 use cfs_active::ActiveInode;
@@ -17,4 +19,5 @@ pub struct Life {
     pub(crate) grants: Grants,
     pub(crate) readers: Vec<Reader>,
     ghost known: { IsGranted grants readers.items (state_view words_seen seen_of active.state) },
+    ghost lent: { IsWithJobs (active_view active) },
 }

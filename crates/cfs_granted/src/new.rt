@@ -9,6 +9,7 @@ ghost use Rattle.cfs_pmem.specs.Images.{IsSure, words_of};
 ghost use Rattle.cfs_inode.specs.New.{IsStored, stored_state, told_mapped};
 ghost use Rattle.cfs_granted.specs.Attaching.{no_rows};
 ghost use Rattle.cfs_granted.specs.Idle.{IsIdle};
+ghost use Rattle.cfs_granted.specs.Lending.{IsWithJobs};
 ghost use Rattle.cfs_granted.specs.View.{file_view, free, life, life_view};
 
 use crate::file_state::FileState;
@@ -69,7 +70,8 @@ impl FileState {
 impl Life {
     /// A file of which nothing is pending, without a grant.
     pub(crate) fn ungranted(alloc: Global, active: ActiveInode) -> Life
-        requires { IsIdle (active_view active).state }
+        requires idle { IsIdle (active_view active).state }
+        requires none { IsWithJobs (active_view active) }
         ensures { life_view result ≡
             record { active = active_view active; grants = no_rows; readers = [] } }
     {

@@ -2,6 +2,7 @@ use Rattle.std.proofs.Common.{◌∙◌, ◌∷◌, ◌++◌, [], ℕ, ap, sym}
 use Rattle.cfs_active.specs.View.{ActiveView, active_view}
 use Rattle.cfs_tracker.specs.declared.reading.Reading.{Reading}
 use Rattle.cfs_granted.specs.Rows.{Rows, may_ask}
+use Rattle.cfs_granted.proofs.Lendings.{same-lent}
 use Rattle.cfs_granted.proofs.Readings.{asked-granted, asker-stands}
 use Rattle.cfs_granted.proofs.life.Life.admit_read.Goals as goal
 
@@ -21,4 +22,7 @@ invariant_of-self c =
           ++ record { place = place; grant = c.args.grant } ∷ [])
           (ap (λ (r : Reading). r.place) c.admit_read-reading.ensures.reading))
           c.args.self.now.known;
+      lent = same-lent old new
+          (ap (λ (a : ActiveView). a.state.tracker.cells) c.admit_read-reading.ensures.view)
+          (ap (λ (a : ActiveView). a.jobs) c.admit_read-reading.ensures.view) c.args.self.now.lent;
     }

@@ -10,4 +10,5 @@ invariant_of-self c = record {
       (sym c.get.ensures ∙ none-is c.get.result (sym c.is_some.ensures ∙ c.if-is_some.false))
       c.give.ensures
       c.args.self.now.known;
+  lent = c.args.self.now.lent;
 }

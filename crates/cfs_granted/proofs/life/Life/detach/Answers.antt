@@ -26,4 +26,5 @@ invariant_of-self c =
       known = closed-granted number c.in-Some.queue now.grants c.close.new.self
           now.readers.items active.state active.jobs none c.drop_under.ensures.none found
           c.close.ensures now.active.known now.known;
+      lent = now.lent;
     }

@@ -2,7 +2,7 @@ use Rattle.cfs_active.specs.Memory.{words_seen}
 use Rattle.cfs_active.specs.View.{active_view}
 use Rattle.std.proofs.Common.{true}
 use Rattle.cfs_active.specs.Ends.{end_of}
-use Rattle.cfs_granted.proofs.Passings.{granting-end}
+use Rattle.cfs_granted.proofs.Passings.{passes-end}
 use Rattle.cfs_granted.specs.Rows.{stands}
 use Rattle.cfs_granted.proofs.Knowing.{stays-granted}
 use Rattle.cfs_granted.proofs.life.Life.finish.Goals as goal
@@ -11,10 +11,12 @@ pub invariant_of-self : goal.invariant_of-self
 invariant_of-self g c =
     let rows = c.args.self.now.grants in
     let old = active_view c.args.self.now.active in
-    let new = active_view c.finish.new.self in record {
-      known = stays-granted rows c.args.self.now.readers.items old.state new.state
-          (granting-end (λ n. stands n rows) true c.args.place (end_of words_seen c.finish.result)
-          (g.P.Power.asked c.args.power.now) old (g.P.Power.asked c.finish.new.power) new
-          c.finish.ensures)
+    let new = active_view c.finish.new.self in
+    let passes =
+    passes-end (λ n. stands n rows) true c.args.place (end_of words_seen c.finish.result)
+    (g.P.Power.asked c.args.power.now) old (g.P.Power.asked c.finish.new.power) new
+    c.finish.ensures in record {
+      known = stays-granted rows c.args.self.now.readers.items old new passes
           c.args.self.now.known;
+      lent = passes.lent c.args.self.now.lent;
     }

@@ -1,5 +1,6 @@
+use Rattle.cfs_active.specs.Memory.{words_seen}
 use Rattle.cfs_active.specs.View.{active_view}
-use Rattle.cfs_granted.proofs.Passings.{granting-puts}
+use Rattle.cfs_granted.proofs.Passings.{passes-puts}
 use Rattle.cfs_granted.specs.Rows.{stands}
 use Rattle.cfs_granted.proofs.Knowing.{stays-granted}
 use Rattle.cfs_granted.proofs.life.Life.put_back.Goals as goal
@@ -8,9 +9,11 @@ pub invariant_of-self : goal.invariant_of-self
 invariant_of-self c =
     let rows = c.args.self.now.grants in
     let old = active_view c.args.self.now.active in
-    let new = active_view c.put_back.new.self in record {
-      known = stays-granted rows c.args.self.now.readers.items old.state new.state
-          (granting-puts (λ n. stands n rows) c.args.place c.put_back.result old new
-          c.put_back.ensures.puts)
+    let new = active_view c.put_back.new.self in
+    let passes =
+    passes-puts (λ n. stands n rows) c.args.place c.put_back.result old new
+    c.put_back.ensures.puts in record {
+      known = stays-granted rows c.args.self.now.readers.items old new passes
           c.args.self.now.known;
+      lent = passes.lent c.args.self.now.lent;
     }

@@ -3,6 +3,8 @@ use Rattle.cfs_active.specs.View.{active_view}
 use Rattle.std.proofs.Common.{true}
 use Rattle.cfs_inode.specs.Ends.{end_of}
 use Rattle.cfs_granted.proofs.Grantings.{granting-skip}
+use Rattle.cfs_granted.proofs.Lendings.{LendsNone}
+use Rattle.cfs_granted.proofs.Passings.{passes-by}
 use Rattle.cfs_granted.specs.Rows.{stands}
 use Rattle.cfs_granted.proofs.Knowing.{stays-granted}
 use Rattle.cfs_granted.proofs.life.Life.skip.Goals as goal
@@ -11,10 +13,13 @@ pub invariant_of-self : goal.invariant_of-self
 invariant_of-self g c =
     let rows = c.args.self.now.grants in
     let old = active_view c.args.self.now.active in
-    let new = active_view c.skip.new.self in record {
-      known = stays-granted rows c.args.self.now.readers.items old.state new.state
-          (granting-skip (λ n. stands n rows) true c.args.place (end_of words_seen c.skip.result)
-          (g.P.Power.asked c.args.power.now) old.state (g.P.Power.asked c.skip.new.power) new.state
-          c.skip.ensures.skips)
+    let new = active_view c.skip.new.self in
+    let passes =
+    passes-by (λ n. stands n rows) old new c.skip.ensures.jobs
+    (granting-skip (λ n. stands n rows) LendsNone true c.args.place
+    (end_of words_seen c.skip.result) (g.P.Power.asked c.args.power.now) old.state
+    (g.P.Power.asked c.skip.new.power) new.state c.skip.ensures.skips) in record {
+      known = stays-granted rows c.args.self.now.readers.items old new passes
           c.args.self.now.known;
+      lent = passes.lent c.args.self.now.lent;
     }
