@@ -5,3 +5,4 @@ pub mod Passings
 pub mod Knowing
 pub mod Readings
 pub mod Detachings
+pub mod Purgings
