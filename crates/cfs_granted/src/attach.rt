@@ -26,7 +26,8 @@ impl FileState {
         requires here { is_here (file_view self.old) ≡ true }
         requires number { grant.ino < 2 ^ 32 }
         requires queue { grant.queue < 64 }
-        ensures { Attaches grant result (file_view self.old) (file_view self.new) }
+        ensures attaches { Attaches grant result (file_view self.old) (file_view self.new) }
+        ensures here { is_here (file_view self.new) ≡ true }
     {
         match mem::replace(self, FileState::Moving) {
             FileState::Free(free) => match free.begin(alloc, grant) {

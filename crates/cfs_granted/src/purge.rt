@@ -27,9 +27,10 @@ impl FileState {
     /// a step. `Failed` comes for a device fault alone, and then the same step is the next one.
     pub fn purge<P: Power>(&mut self, power: &mut P) -> PurgeAnswer
         requires here { is_here (file_view self.old) ≡ true }
-        ensures { PurgesFile (purge_end result)
+        ensures purges { PurgesFile (purge_end result)
             (P.asked power.old) (file_view self.old)
             (P.asked power.new) (file_view self.new) }
+        ensures here { is_here (file_view self.new) ≡ true }
     {
         match mem::replace(self, FileState::Moving) {
             FileState::Free(free) => {
@@ -79,9 +80,10 @@ impl Life {
 impl Ending {
     /// One step by which it is emptied, and the record then.
     fn emptied<P: Power>(self, power: &mut P) -> (FileState, PurgeAnswer)
-        ensures { Empties (purge_end result.1)
+        ensures empties { Empties (purge_end result.1)
             (P.asked power.old) (state_view words_seen seen_of self.state)
             (P.asked power.new) (file_view result.0) }
+        ensures here { is_here (file_view result.0) ≡ true }
     {
         let Ending { mut state } = self;
         match state.purge(power) {
