@@ -10,12 +10,13 @@ use Rattle.std.proofs.lemmas.Bool.{and_parts, or_from, or_parts, true≢false}
 use Rattle.cfs_block.specs.BlockImages.{BlockStep}
 use Rattle.cfs_core.specs.declared.inode_core.Core.{Core}
 use Rattle.cfs_core.specs.declared.state.State.TheVariants as states
+use Rattle.cfs_core.specs.declared.track.Track.{Track}
 use Rattle.cfs_core.specs.Words.{track}
 use Rattle.cfs_file.specs.declared.sizes.TheConstants.{FILE_BLOCKS}
 use Rattle.cfs_job.specs.Views.{JobView}
 use Rattle.cfs_medium.specs.World.{World}
 use Rattle.cfs_pmem.specs.declared.trace.Asked.{Asked}
-use Rattle.cfs_pmem.specs.Images.{Seen, WordStep, words_of}
+use Rattle.cfs_pmem.specs.Images.{IsImage, Seen, WordStep, words_of}
 use Rattle.cfs_pmem.proofs.ImageLemmas.{now_is_image}
 use Rattle.cfs_tracker.specs.declared.cell.Cell.{Cell}
 use Rattle.cfs_tracker.specs.declared.cell.Cell.TheVariants as kinds
@@ -33,7 +34,7 @@ use Rattle.cfs_inode.specs.Purges.{IsZero, PurgeFailing, PurgeFails, Purges, Tel
 use Rattle.cfs_inode.specs.Purges.{Zeroes, failed, freed, keeping, untagging, writing}
 use Rattle.cfs_inode.specs.Stands.{AllStand, IsAtRest}
 use Rattle.cfs_inode.specs.Trims.{with_block_cell}
-use Rattle.cfs_inode.specs.View.{StateView}
+use Rattle.cfs_inode.specs.View.{Held, StateView}
 use Rattle.cfs_inode.proofs.Purges.{standing-tell}
 use Rattle.cfs_active.specs.Known.{IsActive}
 use Rattle.cfs_active.specs.View.{ActiveView}
@@ -105,6 +106,27 @@ any-none (cell ∷ cells) each =
     or_from (is_away cell) (list_any (λ c. is_away c) cells) (each 0 (omega arith))
     (any-none cells (λ block less. each (suc block) (omega (arith, less))))
 
+-- where nothing is pending all is closed
+closed-at : (place : ℕ) (entries : List (Pending Held)) (reads : List Reading) (t : Track) →
+    entries ≡ [] → reads ≡ [] → StandsAt (entry_at entries place) (read_at reads place) t →
+    t.state ≡ states.Closed
+closed-at place [] [] t no_entry no_read stands = stands
+closed-at place [] (read ∷ reads) t no_entry no_read stands =
+    absurd (omega (arith, ap (λ rs. length rs) no_read))
+closed-at place (entry ∷ entries) reads t no_entry no_read stands =
+    absurd (omega (arith, ap (λ es. length es) no_entry))
+
+-- a tracker of which this holds is not used
+not-used : (state : StateView) → nat_lt 0 (length state.tracker.entries) ≡ false →
+    nat_lt 0 (length state.tracker.reads) ≡ false → is_some state.tracker.doubt ≡ false →
+    list_any (λ c. is_away c) state.tracker.cells ≡ false → is_in_use state.tracker ≡ false
+not-used state one two three four =
+    let away = list_any (λ c. is_away c) state.tracker.cells in
+    or_from (nat_lt 0 (length state.tracker.entries))
+    (nat_lt 0 (length state.tracker.reads) || (is_some state.tracker.doubt || away)) one
+    (or_from (nat_lt 0 (length state.tracker.reads)) (is_some state.tracker.doubt || away) two
+    (or_from (is_some state.tracker.doubt) away three four))
+
 pub record IsOver (active : ActiveView) : Type 0 where
   pub ending : IsEnding active.state
   pub jobs : active.jobs ≡ []
@@ -124,9 +146,8 @@ life-ends rows readers active none granted lent known =
     let out : length active.jobs ≡ 0 =
     ∥∥₁_elim known (hlevel props) (λ k.
     none-out state.ino active.jobs k.core k.world k.together.out
-    (λ place. subst (λ rs. StandsAt (None {A = Pending _}) (read_at rs place) (track k.core.tracks place)) reads
-    (subst (λ es. StandsAt (entry_at es place) (read_at state.tracker.reads place)
-    (track k.core.tracks place)) entries (k.together.stands.follows.entries place)))) in
+    (λ place. closed-at place state.tracker.entries state.tracker.reads
+    (track k.core.tracks place) entries reads (k.together.stands.follows.entries place))) in
     let jobs = empty-list active.jobs out in
     let cells : list_any (λ cell. is_away cell) state.tracker.cells ≡ false =
     ∥∥₁_elim known (hlevel props) (λ k.
@@ -138,9 +159,8 @@ life-ends rows readers active none granted lent known =
     ∙ ap (λ js. list_any _ js) jobs)))) in
     record {
       ending = record {
-        unused = or_from _ _ (ap (λ es. nat_lt 0 (length es)) entries)
-            (or_from _ _ (ap (λ rs. nat_lt 0 (length rs)) reads)
-            (or_from _ _ (ap (λ d. is_some d) doubt) cells));
+        unused = not-used state (ap (λ es. nat_lt 0 (length es)) entries)
+            (ap (λ rs. nat_lt 0 (length rs)) reads) (ap (λ d. is_some d) doubt) cells;
         tells = ∥∥₁_elim known (hlevel props)
             (λ k. standing-tell state k.core k.world k.together.stands);
         word = granted.word;
@@ -166,11 +186,14 @@ unused-with : (state : StateView) (at : ℕ) (cell : Cell (Seen BlockStep)) →
     is_away cell ≡ false → is_in_use state.tracker ≡ false →
     is_in_use (with_block_cell at cell state).tracker ≡ false
 unused-with state at cell not unused =
-    let one = or_parts _ _ unused in
-    let two = or_parts _ _ one.1 in
-    let three = or_parts _ _ two.1 in
-    or_from _ _ one.0 (or_from _ _ two.0 (or_from _ _ three.0
-    (any-set state.tracker.cells at cell not three.1)))
+    let away = list_any (λ c. is_away c) state.tracker.cells in
+    let one = or_parts (nat_lt 0 (length state.tracker.entries))
+    (nat_lt 0 (length state.tracker.reads) || (is_some state.tracker.doubt || away)) unused in
+    let two = or_parts (nat_lt 0 (length state.tracker.reads))
+    (is_some state.tracker.doubt || away) one.1 in
+    let three = or_parts (is_some state.tracker.doubt) away two.1 in
+    not-used (with_block_cell at cell state) one.0 two.0 three.0
+    (any-set state.tracker.cells at cell not three.1)
 
 ends-with : (state : StateView) (new : StateView) (at : ℕ) (cell : Cell (Seen BlockStep)) →
     is_away cell ≡ false → new ≡ with_block_cell at cell state → TellsZero new → IsEnding state →
@@ -227,7 +250,8 @@ clean-of size one zeros = record {
   zero = zeros (words_of size) (now_is_image size.history);
 }
   where
-    first : (k : ℕ) (image : List ℕ) → k < 1 → _ → get_or image k 0 ≡ get_or (words_of size) k 0
+    first : (k : ℕ) (image : List ℕ) → k < 1 → IsImage size.history image →
+        get_or image k 0 ≡ get_or (words_of size) k 0
     first zero image less is =
         zeros image is ∙ sym (zeros (words_of size) (now_is_image size.history))
     first (suc k) image less is = absurd (omega (arith, less))
