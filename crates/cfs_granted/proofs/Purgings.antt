@@ -42,7 +42,7 @@ use Rattle.cfs_granted.specs.declared.reader.Reader.{Reader}
 use Rattle.cfs_granted.specs.Clean.{IsClean}
 use Rattle.cfs_granted.specs.Ending.{IsEnding}
 use Rattle.cfs_granted.specs.Granted.{IsGranted, does_doubt_pass}
-use Rattle.cfs_granted.specs.Lending.{IsWithJobs}
+use Rattle.cfs_granted.specs.Lending.{IsWithJobs, holds}
 use Rattle.cfs_granted.specs.Readers.{reader_place}
 use Rattle.cfs_granted.specs.Rows.{Rows, first_number, stands}
 use Rattle.cfs_granted.proofs.Grantings.{sized-same}
@@ -156,7 +156,7 @@ life-ends rows readers active none granted lent known =
     not-away state.ino block (cell_at state.tracker.cells block)
     (k.together.stands.rest block within)
     (λ place is. true≢false (sym (lent.each block place is)
-    ∙ ap (λ js. list_any _ js) jobs)))) in
+    ∙ ap (λ js. list_any (λ j. holds block j) js) jobs)))) in
     record {
       ending = record {
         unused = not-used state (ap (λ es. nat_lt 0 (length es)) entries)
