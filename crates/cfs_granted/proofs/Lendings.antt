@@ -106,6 +106,7 @@ tile-held cells (Some at) (Some tile) block tiles is =
     or_else : {X : Type 0} → X → Option X → X
     or_else x None = x
     or_else x (Some y) = y
+
     some-is : {X : Type 0} (x y : X) → Some x ≡ Some y → x ≡ y
     some-is x y is = ap (λ o. or_else x o) is
 

@@ -147,6 +147,7 @@ found-fewer number (x ∷ xs) reader found =
           ≡ suc (length (without_reader place xs)) = rw there refl in
           omega (arith, longer, length-without place xs)
     ]
+
     elsewhere : (x : Reader) (xs : List Reader) →
         find (λ r. is_under number r) (x ∷ xs) ≡ Some reader →
         is_reader_at reader.place x ≡ false → find (λ r. is_under number r) xs ≡ Some reader

@@ -88,7 +88,10 @@ impl Ending {
         let Ending { mut state } = self;
         match state.purge(power) {
             StateAnswer::Freed(block) => {
-                (FileState::Ending(Ending { state }), PurgeAnswer::Freed(block))
+                (
+                    FileState::Ending(Ending { state }),
+                    PurgeAnswer::Freed(block),
+                )
             }
             StateAnswer::Done => {
                 let latest = state.ino();

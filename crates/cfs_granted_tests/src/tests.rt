@@ -32,7 +32,9 @@ fn attached(alloc: Global, number: u64, ino: u32, queue: u32) -> Option<u64> {
 }
 
 #[test]
-fn a_further_grant_is_of_the_same_file_and_of_a_queue_of_its_own(rt: HostRuntime) -> Result<(), Fail> {
+fn a_further_grant_is_of_the_same_file_and_of_a_queue_of_its_own(
+    rt: HostRuntime,
+) -> Result<(), Fail> {
     for (number, ino, queue, answer) in FURTHER {
         assert_eq!(rt; attached(rt.alloc(), number, ino, queue), Some(answer));
     }

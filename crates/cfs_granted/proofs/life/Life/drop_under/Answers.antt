@@ -27,8 +27,11 @@ loop-reader-smaller c =
     ap (λ (rs : List Reader). find (λ r. is_under c.args.number r) rs) (sym c.deref.ensures.value)
     ∙ sym c.first_under.ensures ∙ c.in-Some.is in
     let less : length c.drop_read.new.self.readers.items < length now.readers.items =
-    omega (arith, ap (λ (v : LifeView). length v.readers) c.drop_read.ensures.view,
-    found-fewer c.args.number now.readers.items c.in-Some.reader found) in less
+    omega (
+      arith,
+      ap (λ (v : LifeView). length v.readers) c.drop_read.ensures.view,
+      found-fewer c.args.number now.readers.items c.in-Some.reader found,
+    ) in less
 
 pub loop-reader-preserved : goal.loop-reader-preserved
 loop-reader-preserved c =
