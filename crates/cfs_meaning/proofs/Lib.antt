@@ -1,4 +1,5 @@
 pub mod Keeping
+pub mod Keyed
 pub mod Quiet
 pub mod Kept
 pub mod KeptInode
@@ -57,3 +58,6 @@ pub mod HomeNodes
 pub mod Homes
 pub mod HomeMounts
 pub mod NewStores
+pub mod Mapping
+pub mod ShownPurges
+pub mod ShownCloses

@@ -19,3 +19,4 @@ pub mod Example
 pub mod Scripts
 pub mod Real
 pub mod Home
+pub mod Stock

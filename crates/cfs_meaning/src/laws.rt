@@ -8,6 +8,7 @@ ghost use Rattle.cfs_meaning.specs.Home.{HomesAreShown, MountsShow, NewStoresAre
 ghost use Rattle.cfs_meaning.specs.Laws.{AnswersAreOnly, CalmRunsAnswer, ChangesMakeSteps};
 ghost use Rattle.cfs_meaning.specs.Laws.{CoresStayReached, FilesAreGood, LogsFollowLines};
 ghost use Rattle.cfs_meaning.specs.Laws.{NamesStayLegal, ReadsAreRight, RunsKeepCores};
+ghost use Rattle.cfs_meaning.specs.Stock.{ClosesKeepShown, MountsMapOnce, RunsKeepMapped};
 
 /// While a store is mounted, each line makes of the core of each file one that the laws of cores
 /// hold of: so each file's log is legal, and a read is answered by the file before it.
@@ -111,4 +112,21 @@ pub fn mounts_show()
 /// The devices of a new store have everything home.
 pub fn new_stores_are_home()
     ensures { NewStoresAreHome }
+{}
+
+/// Each file block of a file has one block: so it stays until the next mount, whatever fails.
+pub fn runs_keep_mapped()
+    ensures { RunsKeepMapped }
+{}
+
+/// So it is where devices are mounted on which no two blocks have one tag, as on those of a new
+/// store.
+pub fn mounts_map_once()
+    ensures { MountsMapOnce }
+{}
+
+/// A `close` keeps a mounted world shown, whatever it helps, and with the purge of removed files,
+/// each step of it done or refused.
+pub fn closes_keep_shown()
+    ensures { ClosesKeepShown }
 {}
