@@ -88,16 +88,19 @@ none-only : (k : ℕ) (blocks : List (ℕ × ℕ)) →
     is_none (option_map (λ (x : ℕ × ℕ). x.1) (find (λ x. x.0 == k) blocks)) ≡ true →
     IsOnlyAt k blocks
 none-only k [] none = tt
-none-only k (x ∷ blocks) none = by-test (x.0 == k) refl none
+none-only k (x ∷ blocks) none =
+    by-test (x.0 == k) refl (λ now. none-only k blocks now) none
   where
     by-test : (b : Bool) → (x.0 == k) ≡ b →
+        (is_none (option_map (λ (y : ℕ × ℕ). y.1) (find (λ y. y.0 == k) blocks)) ≡ true →
+        IsOnlyAt k blocks) →
         is_none (option_map (λ (y : ℕ × ℕ). y.1)
         (cond b (Some x) (find (λ y. y.0 == k) blocks))) ≡ true →
         (x.0 ≢ k) × IsOnlyAt k blocks
-    by-test true is now = absurd (cc)
-    by-test false is now = (eqb-false x.0 k is, none-only k blocks now)
+    by-test true is rest now = absurd (cc)
+    by-test false is rest now = (eqb-false x.0 k is, rest now)
 
-only-more : (j : ℕ) (one other : List (ℕ × ℕ)) → IsOnlyAt j one → IsOnlyAt j other →
+pub only-more : (j : ℕ) (one other : List (ℕ × ℕ)) → IsOnlyAt j one → IsOnlyAt j other →
     IsOnlyAt j (one ++ other)
 only-more j [] other only more = more
 only-more j (x ∷ one) other only more = (only.0, only-more j one other only.1 more)
@@ -164,12 +167,21 @@ single k (x ∷ blocks) own = by-test (x.0 == k) refl (single k blocks own.1)
         IsSingle k (x ∷ blocks) (cond b (x ∷ rest) rest)
     by-test true is later =
         let same : x.0 ≡ k = eqb-true x.0 k is in
-        inr (x, ap (λ list. x ∷ list) (none-left k blocks (subst (λ n. IsOnlyAt n blocks) same
-        own.0)), same, ap (λ b. cond b (Some x) (find (λ y. y.0 == k) blocks)) is)
+        inr (
+          x,
+          ap (λ list. x ∷ list) (none-left k blocks (subst (λ n. IsOnlyAt n blocks) same
+              own.0)),
+          same,
+          ap (λ b. cond b (Some x) (find (λ y. y.0 == k) blocks)) is,
+        )
     by-test false is later = elim later [
       | inl none ↦ inl none
-      | inr one ↦ inr (one.0, one.1, one.2,
-          ap (λ b. cond b (Some x) (find (λ y. y.0 == k) blocks)) is ∙ one.3)
+      | inr one ↦ inr (
+        one.0,
+        one.1,
+        one.2,
+        ap (λ b. cond b (Some x) (find (λ y. y.0 == k) blocks)) is ∙ one.3,
+      )
     ]
 
 -- the blocks of a file by their file blocks
@@ -190,10 +202,11 @@ listed f from (suc n) own = by-first (single from f.blocks own) (listed f (from 
           subst (λ (list : List (ℕ × ℕ)). AreListed (block_of f) from (list ++ rest)) (sym none)
           (listed-from (block_of f) from (from + 1) rest (omega arith) later)
       | inr one ↦
-          subst (λ (list : List (ℕ × ℕ)). AreListed (block_of f) from (list ++ rest)) (sym one.1)
-          (let same = one.2 in omega (arith, same),
-          ap (block_of f) one.2 ∙ ap (option_map (λ (x : ℕ × ℕ). x.1)) one.3,
-          subst (λ k. AreListed (block_of f) (k + 1) rest) (sym one.2) later)
+          subst (λ (list : List (ℕ × ℕ)). AreListed (block_of f) from (list ++ rest)) (sym one.1) (
+            let same = one.2 in omega (arith, same),
+            ap (block_of f) one.2 ∙ ap (option_map (λ (x : ℕ × ℕ). x.1)) one.3,
+            subst (λ k. AreListed (block_of f) (k + 1) rest) (sym one.2) later,
+          )
     ]
 
 -- the file that is no file has none

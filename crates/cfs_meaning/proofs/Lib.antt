@@ -59,5 +59,6 @@ pub mod Homes
 pub mod HomeMounts
 pub mod NewStores
 pub mod Mapping
+pub mod MappedOnce
 pub mod ShownPurges
 pub mod ShownCloses

@@ -97,7 +97,7 @@ each-region P count queues all = λ k d low.
     let long = regions-long count queues in
     subst P (sym (region-new count queues k d (omega (arith, low, long)))) (all k)
 
-each-block : (P : Seen BlockStep → Type 0) (count queues : ℕ) →
+pub each-block : (P : Seen BlockStep → Type 0) (count queues : ℕ) →
     ((number : ℕ) → P (blocks.began number new_content)) → All P (new_drive count queues).blocks
 each-block P count queues all = λ k d low.
     let long = blocks-long count queues in

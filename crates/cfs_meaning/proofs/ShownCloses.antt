@@ -56,7 +56,8 @@ purge-once ino =
 pub purges-shown : Leaves IsShownOnce (λ u. IsShown) IsShown purge_all
 purges-shown =
     leave-look (λ x.
-    leave-weaker {P = IsShownOnce} (λ w holds. holds.1) (λ u w both. both.0) (λ w both. both.0)
+    leave-weaker {P = IsShownOnce} {Q = λ u. IsShownOnce} {E = IsShownOnce} (λ w holds. holds.1)
+    (λ u w both. both.0) (λ w both. both.0)
     (leave-each (dying x) _ (λ ino. leave-shrugs (purge-once ino))))
 
 -- what a request leaves that is answered and changes no file: a tree that is shown as before
@@ -80,17 +81,20 @@ logged-shown world new drive files tree doubt shown =
 
 -- ---- a grant is given back
 
+abbrev left-of : Order → Option (NameAnswer × Order) → Order
+left-of order None = order
+left-of order (Some step) = step.1
+
 closed-tree : (order after : Order) (answer : NameAnswer) (c queue : ℕ) (grant : Option Grant) →
     close_step order c queue grant ≡ Some (answer, after) → tree_of after ≡ tree_of order
 closed-tree order after answer c queue None is = absurd (cc)
 closed-tree order after answer c queue (Some grant) is = by-caller (grant.caller == c) is
   where
     by-caller : (b : Bool) →
-        (if b then Some (names.done, record order { grants = set order.grants queue None })
-        else None) ≡ Some (answer, after) → tree_of after ≡ tree_of order
-    by-caller true now =
-        let same : record order { grants = set order.grants queue None } ≡ after = cc in
-        ap tree_of (sym same)
+        if◌then◌else◌ {A = Option (NameAnswer × Order)} b
+        (Some (names.done, record order { grants = set order.grants queue None })) None
+        ≡ Some (answer, after) → tree_of after ≡ tree_of order
+    by-caller true now = ap tree_of (sym (ap (left-of order) now))
     by-caller false now = absurd (cc)
 
 close-logged : (world : World) (c line : ℕ) (d : Descriptor) (rec : Option ℕ)
@@ -186,7 +190,7 @@ close-shown d c line =
     (leave-changes (λ w both. (same-shown w _ refl refl refl both.0, both.1))) (λ s.
     leave-then {Q = λ r. IsShown}
     (leave-then {Q = λ q. IsShownOnce} (give-back d c line) (λ q. purges-shown)) (λ r.
-    leave-look (λ y. leave-give (λ w holds. holds.1)))))))))
+    leave-look (λ y. leave-give (λ w holds. holds.1))))))))))
 
 pub closes-keep-shown : ClosesKeepShown
 closes-keep-shown old new line out c fd is mounted open_ mapped reached shown

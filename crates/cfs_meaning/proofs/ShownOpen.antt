@@ -94,15 +94,15 @@ leave-each {P = P} (a ∷ items) way one =
     leave-then {Q = λ u. P} (one a) (λ u. leave-each items way one)
 
 -- tried once, however it ends
-shrugged : {P E : World → Type 0} {way : Way (Unit {0})} → Leaves P (λ u. P) P way →
-    (old : World) (end : Result (Unit {0}) Halt) (new : World) → P old →
+shrugged : {P : World → Type 0} (E : World → Type 0) {way : Way (Unit {0})} →
+    Leaves P (λ u. P) P way → (old : World) (end : Result (Unit {0}) Halt) (new : World) → P old →
     Shrugs way old end new → IfEnds (λ u. P) E end new
-shrugged one old end new holds (whole way) = one.by old (Ok tt) new holds way
-shrugged one old end new holds (shrugs {halt = halt} way) = one.by old (Err halt) new holds way
+shrugged E one old end new holds (whole way) = one.by old (Ok tt) new holds way
+shrugged E one old end new holds (shrugs {halt = halt} way) = one.by old (Err halt) new holds way
 
 pub leave-shrugs : {P E : World → Type 0} {way : Way (Unit {0})} → Leaves P (λ u. P) P way →
     Leaves P (λ u. P) E (Shrugs way)
-leave-shrugs one = record { by = shrugged one }
+leave-shrugs {E = E} one = record { by = shrugged E one }
 
 -- ---- files that have not ended
 
