@@ -62,3 +62,8 @@ pub mod Mapping
 pub mod MappedOnce
 pub mod ShownPurges
 pub mod ShownCloses
+pub mod RegionOps
+pub mod TreeRests
+pub mod RecordOps
+pub mod ShownTrees
+pub mod ShownRecords

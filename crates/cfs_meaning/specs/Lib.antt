@@ -20,3 +20,4 @@ pub mod Scripts
 pub mod Real
 pub mod Home
 pub mod Stock
+pub mod Trees

@@ -9,6 +9,7 @@ ghost use Rattle.cfs_meaning.specs.Laws.{AnswersAreOnly, CalmRunsAnswer, Changes
 ghost use Rattle.cfs_meaning.specs.Laws.{CoresStayReached, FilesAreGood, LogsFollowLines};
 ghost use Rattle.cfs_meaning.specs.Laws.{NamesStayLegal, ReadsAreRight, RunsKeepCores};
 ghost use Rattle.cfs_meaning.specs.Stock.{ClosesKeepShown, MountsMapOnce, RunsKeepMapped};
+ghost use Rattle.cfs_meaning.specs.Trees.{DevNames};
 
 /// While a store is mounted, each line makes of the core of each file one that the laws of cores
 /// hold of: so each file's log is legal, and a read is answered by the file before it.
@@ -129,4 +130,9 @@ pub fn mounts_map_once()
 /// each step of it done or refused.
 pub fn closes_keep_shown()
     ensures { ClosesKeepShown }
+{}
+
+/// dev
+pub fn dev_names()
+    ensures { DevNames }
 {}

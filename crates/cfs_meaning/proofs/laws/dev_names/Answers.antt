@@ -1,0 +1,5 @@
+use Rattle.cfs_meaning.proofs.ShownRecords.{store-shown}
+use Rattle.cfs_meaning.proofs.laws.dev_names.Goals as goal
+
+pub returns : goal.returns
+returns c = λ world stored. stored
