@@ -67,3 +67,4 @@ pub mod TreeRests
 pub mod RecordOps
 pub mod ShownTrees
 pub mod ShownRecords
+pub mod ShownSaves

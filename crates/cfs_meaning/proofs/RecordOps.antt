@@ -29,12 +29,12 @@ use Rattle.cfs_meaning.proofs.ShownGates.{EndsSet, answer_of, ends-long, sets}
 
 -- ---- words that are written
 
-abbrev IsWritten : ℕ → List ℕ → ℕ → Seen WordStep → Type 0
+abbrev pub IsWritten : ℕ → List ℕ → ℕ → Seen WordStep → Type 0
 IsWritten from words k old =
     (asked : List Asked)
     × HasWritten true from words k [] old asked (after_all word_done (puts from words k) old)
 
-has-written : (from : ℕ) (words : List ℕ) (k : ℕ) (old : Seen WordStep) → k ≤ length words →
+pub has-written : (from : ℕ) (words : List ℕ) (k : ℕ) (old : Seen WordStep) → k ≤ length words →
     from + length words ≤ length (words_of old) → IsWritten from words k old
 has-written from words zero old most fits = ([], written_none true from words [] old)
 has-written from words (suc k) old most fits =

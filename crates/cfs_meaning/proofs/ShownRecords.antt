@@ -88,7 +88,7 @@ at-next tree now through records ops world ready =
 
 -- ---- the record in doubt is closed
 
-set-ends : (ok : Bool) (at word : ℕ) (old new : Seen WordStep) →
+pub set-ends : (ok : Bool) (at word : ℕ) (old new : Seen WordStep) →
     EndsWords ok (set_ops at word) old new → EndsSet ok at word old new
 set-ends true at word old new is = is
 set-ends false at word old new stops = by-left stops.left stops.within stops.state

@@ -1,4 +1,4 @@
-use Rattle.cfs_meaning.proofs.ShownRecords.{store-shown}
+use Rattle.cfs_meaning.proofs.ShownSaves.{checkpoint-shown}
 use Rattle.cfs_meaning.proofs.laws.dev_names.Goals as goal
 
 pub returns : goal.returns
