@@ -68,3 +68,5 @@ pub mod RecordOps
 pub mod ShownTrees
 pub mod ShownRecords
 pub mod ShownSaves
+pub mod StoredKept
+pub mod ShownNames

@@ -1,7 +1,7 @@
 -- How the journal and the checkpoint stand for a world's tree, and the lines on names.
-use Rattle.std.specs.Prelude.{◌≡◌, ◌⊎◌, ℕ, Bool, true, false, List, drop, length, take}
+use Rattle.std.specs.Prelude.{◌≡◌, ℕ, List, [], ◌∷◌, drop, length, take}
 use Rattle.cfs_dir.specs.declared.change.Change.{Change}
-use Rattle.cfs_dir.specs.Change.{IsTellable}
+use Rattle.cfs_dir.specs.Change.{IsTellable, changed}
 use Rattle.cfs_dir.specs.Namespace.{Namespace}
 use Rattle.cfs_dir.specs.Tree.{IsTree}
 use Rattle.cfs_pmem.specs.AllMoments.{AreDistinct}
@@ -10,9 +10,19 @@ use Rattle.cfs_pmem.specs.Objects.{all_devices}
 use Rattle.cfs_journal.specs.Standing.{Standing}
 use Rattle.cfs_ckpt.specs.Selects.{Selects}
 use Rattle.cfs_names.specs.Behind.{AreBehind}
+use Rattle.cfs_requests.specs.Steps.{NameRequest, makes_directory, moves_node, opens_file}
+use Rattle.cfs_requests.specs.Steps.{removes_directory, unlinks_file}
+use Rattle.cfs_script.specs.declared.form.Form.{Form}
+use Rattle.cfs_script.specs.declared.form.Form.TheVariants as forms
+use Rattle.cfs_script.specs.declared.line.Line.{Line}
+use Rattle.cfs_print.specs.declared.out_line.OutLine.{OutLine}
 use Rattle.cfs_meaning.specs.Drive.{Drive}
-use Rattle.cfs_meaning.specs.NameSteps.{tree_of}
-use Rattle.cfs_meaning.specs.World.{World}
+use Rattle.cfs_meaning.specs.NameSteps.{changes_of, tree_of}
+use Rattle.cfs_meaning.specs.Names.{files_made, free_record}
+use Rattle.cfs_meaning.specs.World.{Up, World, credential_in}
+use Rattle.cfs_meaning.specs.Devices.{IsShown}
+use Rattle.cfs_meaning.specs.Play.{Step}
+use Rattle.cfs_meaning.specs.Stock.{AreMappedOnce}
 
 -- the selector, the two copies of the table, and the 64 records
 abbrev pub front_in : Drive → List (Seen WordStep)
@@ -40,5 +50,39 @@ pub record IsTreeStored (tree : Namespace) (world : World) : Type 0 where
 abbrev pub IsStored : World → Type 0
 IsStored world = IsTreeStored (tree_of world.names.now) world
 
-abbrev pub DevNames : Type 0
-DevNames = (world : World) → IsStored world → IsStored world
+-- ---- the lines on names
+
+-- Nothing changes of a tree, or one thing, which its words tell, and behind which it is a tree
+-- again; and no file begins.
+abbrev pub AreWell : Namespace → List Change → Type 0
+AreWell tree [] = Unit {0}
+AreWell tree (change ∷ rest) =
+    IsTellable change × IsTree (changed tree change).nodes (changed tree change).next
+    × (rest ≡ []) × (files_made change ≡ [])
+
+-- so of what a request changes
+abbrev pub ChangesWell : World → NameRequest → Type 0
+ChangesWell world request =
+    AreWell (tree_of world.names.now) (changes_of world.names.now request (free_record world))
+
+-- a line on names whose request does
+abbrev pub NamesSuit : World → Form → Type 0
+NamesSuit world (forms.Open c path flags mode) =
+    ChangesWell world (opens_file (credential_in world c) path flags mode)
+NamesSuit world (forms.Mkdir c path mode) =
+    ChangesWell world (makes_directory (credential_in world c) path mode)
+NamesSuit world (forms.Unlink c path) =
+    ChangesWell world (unlinks_file (credential_in world c) path)
+NamesSuit world (forms.Rmdir c path) =
+    ChangesWell world (removes_directory (credential_in world c) path)
+NamesSuit world (forms.Rename c from to) =
+    ChangesWell world (moves_node (credential_in world c) from to)
+NamesSuit world other = ⊥
+
+-- It keeps a mounted world shown, and stored, whether it is answered or refused, and whatever step
+-- of the journal, of a checkpoint or of a purge is refused.
+abbrev pub NamesKeepShown : Type 0
+NamesKeepShown =
+    (old new : World) (line : Line) (out : List OutLine) → old.phase ≡ Up →
+    NamesSuit old line.form → AreMappedOnce old → IsStored old → IsShown old →
+    Step line old out new → IsShown new × IsStored new

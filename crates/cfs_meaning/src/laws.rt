@@ -9,7 +9,7 @@ ghost use Rattle.cfs_meaning.specs.Laws.{AnswersAreOnly, CalmRunsAnswer, Changes
 ghost use Rattle.cfs_meaning.specs.Laws.{CoresStayReached, FilesAreGood, LogsFollowLines};
 ghost use Rattle.cfs_meaning.specs.Laws.{NamesStayLegal, ReadsAreRight, RunsKeepCores};
 ghost use Rattle.cfs_meaning.specs.Stock.{ClosesKeepShown, MountsMapOnce, RunsKeepMapped};
-ghost use Rattle.cfs_meaning.specs.Trees.{DevNames};
+ghost use Rattle.cfs_meaning.specs.Trees.{NamesKeepShown};
 
 /// While a store is mounted, each line makes of the core of each file one that the laws of cores
 /// hold of: so each file's log is legal, and a read is answered by the file before it.
@@ -132,7 +132,9 @@ pub fn closes_keep_shown()
     ensures { ClosesKeepShown }
 {}
 
-/// dev
-pub fn dev_names()
-    ensures { DevNames }
+/// A line on names keeps a mounted world shown, and its tree stored, where what it changes of the
+/// tree is one thing at most and makes a tree again, and no file begins: whether it is answered or
+/// refused, and each step of it done or refused.
+pub fn names_keep_shown()
+    ensures { NamesKeepShown }
 {}
