@@ -70,3 +70,5 @@ pub mod ShownRecords
 pub mod ShownSaves
 pub mod StoredKept
 pub mod ShownNames
+pub mod ChangesWell
+pub mod NewTrees

@@ -1,8 +1,9 @@
 -- How the journal and the checkpoint stand for a world's tree, and the lines on names.
-use Rattle.std.specs.Prelude.{◌≡◌, ℕ, List, [], ◌∷◌, drop, length, take}
+use Rattle.std.specs.Prelude.{◌≡◌, ℕ, ◌<◌, ◌^◌, List, [], ◌∷◌, drop, length, take}
 use Rattle.cfs_dir.specs.declared.change.Change.{Change}
 use Rattle.cfs_dir.specs.Change.{IsTellable, changed}
 use Rattle.cfs_dir.specs.Namespace.{Namespace}
+use Rattle.cfs_dir.specs.Path.{ArePathNames}
 use Rattle.cfs_dir.specs.Tree.{IsTree}
 use Rattle.cfs_pmem.specs.AllMoments.{AreDistinct}
 use Rattle.cfs_pmem.specs.Images.{Seen, WordStep}
@@ -19,7 +20,9 @@ use Rattle.cfs_print.specs.declared.out_line.OutLine.{OutLine}
 use Rattle.cfs_meaning.specs.Drive.{Drive}
 use Rattle.cfs_meaning.specs.NameSteps.{changes_of, tree_of}
 use Rattle.cfs_meaning.specs.Names.{files_made, free_record}
-use Rattle.cfs_meaning.specs.World.{Up, World, credential_in}
+use Rattle.cfs_meaning.specs.World.{Caller, Up, World, credential_in}
+use Rattle.cfs_meaning.specs.Mounting.{mounted_world}
+use Rattle.cfs_meaning.specs.Home.{new_drive}
 use Rattle.cfs_meaning.specs.Devices.{IsShown}
 use Rattle.cfs_meaning.specs.Play.{Step}
 use Rattle.cfs_meaning.specs.Stock.{AreMappedOnce}
@@ -49,6 +52,12 @@ pub record IsTreeStored (tree : Namespace) (world : World) : Type 0 where
 
 abbrev pub IsStored : World → Type 0
 IsStored world = IsTreeStored (tree_of world.names.now) world
+
+-- The tree of a new store, as it is mounted, is stored.
+abbrev pub NewStoresAreStored : Type 0
+NewStoresAreStored =
+    (callers : List Caller) (blocks queues : ℕ) →
+    IsStored (mounted_world callers (new_drive blocks queues))
 
 -- ---- the lines on names
 
@@ -86,3 +95,18 @@ NamesKeepShown =
     (old new : World) (line : Line) (out : List OutLine) → old.phase ≡ Up →
     NamesSuit old line.form → AreMappedOnce old → IsStored old → IsShown old →
     Step line old out new → IsShown new × IsStored new
+
+-- the names of a line's paths, and the bounds of its words
+abbrev pub IsBounded : World → Form → Type 0
+IsBounded world (forms.Mkdir c path mode) =
+    ArePathNames path × (mode < 512) × ((credential_in world c).uid < 2 ^ 32)
+    × ((credential_in world c).gid < 2 ^ 32)
+IsBounded world (forms.Unlink c path) = ArePathNames path
+IsBounded world (forms.Rmdir c path) = ArePathNames path
+IsBounded world (forms.Rename c from to) = ArePathNames from × ArePathNames to
+IsBounded world other = ⊥
+
+-- So it is with each line that makes a directory, removes a node or moves one.
+abbrev pub LinesChangeWell : Type 0
+LinesChangeWell =
+    (world : World) (form : Form) → IsStored world → IsBounded world form → NamesSuit world form

@@ -9,7 +9,7 @@ ghost use Rattle.cfs_meaning.specs.Laws.{AnswersAreOnly, CalmRunsAnswer, Changes
 ghost use Rattle.cfs_meaning.specs.Laws.{CoresStayReached, FilesAreGood, LogsFollowLines};
 ghost use Rattle.cfs_meaning.specs.Laws.{NamesStayLegal, ReadsAreRight, RunsKeepCores};
 ghost use Rattle.cfs_meaning.specs.Stock.{ClosesKeepShown, MountsMapOnce, RunsKeepMapped};
-ghost use Rattle.cfs_meaning.specs.Trees.{NamesKeepShown};
+ghost use Rattle.cfs_meaning.specs.Trees.{LinesChangeWell, NamesKeepShown, NewStoresAreStored};
 
 /// While a store is mounted, each line makes of the core of each file one that the laws of cores
 /// hold of: so each file's log is legal, and a read is answered by the file before it.
@@ -137,4 +137,15 @@ pub fn closes_keep_shown()
 /// refused, and each step of it done or refused.
 pub fn names_keep_shown()
     ensures { NamesKeepShown }
+{}
+
+/// So it is with each line that makes a directory, removes a node or moves one, whose words have
+/// their bounds.
+pub fn lines_change_well()
+    ensures { LinesChangeWell }
+{}
+
+/// The tree of a new store, of any number of blocks and queues, is stored when it is mounted.
+pub fn new_stores_are_stored()
+    ensures { NewStoresAreStored }
 {}
