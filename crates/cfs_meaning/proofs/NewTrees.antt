@@ -114,8 +114,8 @@ records-blank = record {
 
 table-long : (copy : ℕ) → copy < 2 → length (new_words (suc copy)) ≡ 3073
 table-long zero low =
-    length-append new_table (zeros 3068) ∙ ap (λ n. 5 + n) (length-replicate 3068 0)
-table-long (suc zero) low = length-replicate 3073 0
+    length-append new_table (zeros 3068) ∙ ap (λ n. 5 + n) (length-replicate {A = ℕ} 3068 0)
+table-long (suc zero) low = length-replicate {A = ℕ} 3073 0
 table-long (suc (suc copy)) low = absurd (omega (arith, low))
 
 tables-fresh : AreFresh (take 3 new_front)
