@@ -72,3 +72,8 @@ pub mod StoredKept
 pub mod ShownNames
 pub mod ChangesWell
 pub mod NewTrees
+pub mod StoredParts
+pub mod StoredLines
+pub mod Begun
+pub mod Beside
+pub mod ShownMarks

@@ -37,7 +37,7 @@ made-keyed (changes.Create node) = unless-directory (is_directory node.kind)
 made-keyed (changes.Remove rec ino) = tt
 made-keyed (changes.Move node replaced) = tt
 
-all-made-keyed : (list : List Change) → OfEachFile Keyed (flat_map files_made list)
+pub all-made-keyed : (list : List Change) → OfEachFile Keyed (flat_map files_made list)
 all-made-keyed [] = tt
 all-made-keyed (change ∷ list) =
     files-joined Keyed (files_made change) (flat_map files_made list) (made-keyed change)

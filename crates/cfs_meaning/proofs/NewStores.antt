@@ -109,7 +109,7 @@ each-block P count queues all = λ k d low.
 abbrev pub zeros : ℕ → List ℕ
 zeros n = replicate n 0
 
-size-words : (rec : ℕ) → rec < 256 → new_words (67 + rec) ≡ 0 ∷ []
+pub size-words : (rec : ℕ) → rec < 256 → new_words (67 + rec) ≡ 0 ∷ []
 size-words rec low =
     ap (λ front. front ++ zeros (region_words (67 + rec) - length front)) no_front
     ∙ ap (λ n. zeros (n - 0)) one
@@ -120,7 +120,7 @@ size-words rec low =
     one : region_words (67 + rec) ≡ 1
     one = grind (arith, nat_tests)
 
-new-size : (count queues rec : ℕ) → rec < 256 →
+pub new-size : (count queues rec : ℕ) → rec < 256 →
     HasWord (new_drive count queues) (size_word rec)
 new-size count queues rec low = record {
   within = (let long = regions-long count queues in omega (arith, low, long));

@@ -25,13 +25,17 @@ use Rattle.cfs_ckpt.proofs.SelectLemmas.{fresh_selects}
 use Rattle.cfs_image.specs.Fresh.{front_of, new_table, new_words}
 use Rattle.cfs_image.specs.Layout.{region_words}
 use Rattle.cfs_names.specs.Behind.{AreBehind, IsBehind}
-use Rattle.cfs_meaning.specs.Drive.{Drive}
+use Rattle.cfs_meaning.specs.Drive.{Drive, region_at}
 use Rattle.cfs_meaning.specs.World.{Caller}
-use Rattle.cfs_meaning.specs.Mounting.{changes_in, mounted_world, recovered_tree, through_in}
-use Rattle.cfs_meaning.specs.Mounting.{tree_words}
+use Rattle.cfs_meaning.specs.NameSteps.{tree_of}
+use Rattle.cfs_meaning.specs.Devices.{OfEachFile}
+use Rattle.cfs_meaning.specs.Mounting.{changes_in, files_of, mounted_file, mounted_world}
+use Rattle.cfs_meaning.specs.Mounting.{recovered_tree, through_in, tree_words}
 use Rattle.cfs_meaning.specs.Home.{new_drive}
-use Rattle.cfs_meaning.specs.Trees.{NewStoresAreStored, front_in, records_in, tables_in}
-use Rattle.cfs_meaning.proofs.NewStores.{loads-new, new-stores-are-home, new_tree, none-above}
+use Rattle.cfs_meaning.specs.Trees.{NewStoresAreClear, NewStoresAreStored, front_in, records_in}
+use Rattle.cfs_meaning.specs.Trees.{tables_in}
+use Rattle.cfs_meaning.proofs.NewStores.{loads-new, new-size, new-stores-are-home, new_tree}
+use Rattle.cfs_meaning.proofs.NewStores.{none-above, size-words}
 use Rattle.cfs_meaning.proofs.NewStores.{region-new, regions-long, tree-new, words-new, zeros}
 
 -- ---- the first regions
@@ -183,3 +187,26 @@ new-stores-are-stored callers count queues =
           (sym front) (new-distinct 0 67);
       whole = (new-stores-are-home count queues).tree;
     }
+
+-- ---- records that are not used
+
+no-files : (callers : List Caller) (count queues : ℕ) →
+    (mounted_world callers (new_drive count queues)).files ≡ []
+no-files callers count queues =
+    ap (λ tree. map (mounted_file (new_drive count queues)) (files_of tree))
+    (tree-new count queues)
+
+pub new-stores-are-clear : NewStoresAreClear
+new-stores-are-clear callers count queues = record {
+  words = λ rec unused low. new-size count queues rec low;
+  clear = λ rec unused low.
+      let here : region_at (new_drive count queues) (67 + rec) ≡ new_region (67 + rec) =
+      region-new count queues (67 + rec) _ (omega (arith, low)) in
+      subst (λ (s : Seen WordStep). AllImages s (λ words. get_or words 0 0 ≡ 0)) (sym here)
+      (λ image possible.
+      ap (λ (ws : List ℕ). get_or ws 0 0)
+      (sure_began (67 + rec) (new_words (67 + rec)) image possible ∙ size-words rec low));
+  numbers = subst (OfEachFile (λ f.
+      f.ino < (tree_of (mounted_world callers (new_drive count queues)).names.now).next))
+      (sym (no-files callers count queues)) tt;
+}

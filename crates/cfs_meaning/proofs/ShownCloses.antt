@@ -85,7 +85,7 @@ abbrev left-of : Order → Option (NameAnswer × Order) → Order
 left-of order None = order
 left-of order (Some step) = step.1
 
-closed-tree : (order after : Order) (answer : NameAnswer) (c queue : ℕ) (grant : Option Grant) →
+pub closed-tree : (order after : Order) (answer : NameAnswer) (c queue : ℕ) (grant : Option Grant) →
     close_step order c queue grant ≡ Some (answer, after) → tree_of after ≡ tree_of order
 closed-tree order after answer c queue None is = absurd (cc)
 closed-tree order after answer c queue (Some grant) is = by-caller (grant.caller == c) is

@@ -1,13 +1,15 @@
 -- The lines on names keep a world shown by its devices, and its tree stored.
 use Rattle.std.proofs.Common.{◌≡◌, ℕ, Bool, true, false, Option, Some, None, List, [], ◌∷◌, ◌++◌, refl}
-use Rattle.std.proofs.Common.{sym, ap, ◌∙◌, subst}
+use Rattle.std.proofs.Common.{◌≢◌, ◌<◌, length, get_or, sym, ap, ◌∙◌, subst, arith}
 use Rattle.std.specs.Prelude.{Result, Ok, Err}
 use Rattle.std.specs.List.{flat_map}
 use Rattle.std.proofs.lemmas.List.{append-nil}
 use Rattle.cfs_cred.specs.declared.credential.Credential.{Credential}
 use Rattle.cfs_dir.specs.declared.change.Change.{Change}
-use Rattle.cfs_dir.specs.Change.{changed_by}
+use Rattle.cfs_dir.specs.Change.{changed, changed_by}
 use Rattle.cfs_dir.specs.Namespace.{Namespace}
+use Rattle.cfs_dir.specs.Tree.{IsTree}
+use Rattle.cfs_pmem.specs.Images.{AllImages, Seen, WordStep, words_of}
 use Rattle.cfs_names.specs.Recovered.{IsTreeOr, recovered}
 use Rattle.cfs_print.specs.declared.printed.Printed.{Printed}
 use Rattle.cfs_requests.specs.Looks.{makes, moves, opens, removes, unlinks}
@@ -23,20 +25,25 @@ use Rattle.cfs_meaning.specs.Names.{ask, ask_and_purge, dying, files_made, free_
 use Rattle.cfs_meaning.specs.Names.{open_with, purge_all, refusal_answer, say_made, say_named}
 use Rattle.cfs_meaning.specs.Names.{step_in, store_change}
 use Rattle.cfs_meaning.specs.NameSteps.{refusal_of}
-use Rattle.cfs_meaning.specs.Devices.{IsShown}
+use Rattle.cfs_meaning.specs.Drive.{region_at}
+use Rattle.cfs_meaning.specs.Steps.{size_word}
+use Rattle.cfs_meaning.specs.Devices.{IsShown, OfEachFile}
 use Rattle.cfs_meaning.specs.Inode.{purge}
 use Rattle.cfs_meaning.specs.Play.{by, does, steps_so, up, while_up}
 use Rattle.cfs_meaning.specs.Stock.{AreMappedOnce, HaveOwnKeys}
 use Rattle.cfs_meaning.specs.Trees.{AreWell, ChangesWell, IsStored, IsTreeStored, NamesKeepShown}
-use Rattle.cfs_meaning.specs.Trees.{NamesSuit, front_in}
+use Rattle.cfs_meaning.specs.Trees.{MayBegin, NamesSuit}
 use Rattle.cfs_meaning.specs.Ways.{Changes, Halt, Now, Way, each, give, known, never, ◌>>=◌, ◌>>◌}
 use Rattle.cfs_meaning.proofs.Changes.{changes-make}
 use Rattle.cfs_meaning.proofs.Hoare.{Leaves, leave-changes, leave-end, leave-give, leave-known}
 use Rattle.cfs_meaning.proofs.Hoare.{leave-look, leave-then, leave-weaker}
 use Rattle.cfs_meaning.proofs.KeptInode.{kept-purge}
 use Rattle.cfs_meaning.proofs.KeptNames.{kept-store}
-use Rattle.cfs_meaning.proofs.Keyed.{keyed-in}
-use Rattle.cfs_meaning.proofs.Mapping.{leave-mapped, mapped_law}
+use Rattle.cfs_meaning.proofs.Begun.{begun-shown}
+use Rattle.cfs_meaning.proofs.Beside.{IsSame, r-stores, same-itself}
+use Rattle.cfs_meaning.proofs.Keyed.{files-joined, keyed-in}
+use Rattle.cfs_meaning.proofs.Mapping.{all-made-keyed, leave-mapped, mapped_law}
+use Rattle.cfs_meaning.proofs.ShownFiles.{files-map}
 use Rattle.cfs_meaning.proofs.ShownOpen.{leave-both, leave-each, leave-shrugs}
 use Rattle.cfs_meaning.proofs.ShownPurges.{purge-shown}
 use Rattle.cfs_meaning.proofs.ShownRecords.{store-shown}
@@ -113,40 +120,56 @@ same-changes one other (moves_node credential from to) rec same =
     ap (λ (t : Namespace). moved_changes t.nodes (moves t credential from to)) same
 same-changes one other (closes_queue queue) rec same = refl
 
-none-made : (tree : Namespace) (list : List Change) → AreWell tree list →
-    flat_map files_made list ≡ []
-none-made tree [] well = refl
-none-made tree (change ∷ rest) well =
-    ap (λ (files : List File). files ++ flat_map files_made rest) well.3
-    ∙ ap (flat_map files_made) well.2
+-- files that may begin may still where the rest is the same
+still-may : (x w : World) (f : File) → IsSame x w → MayBegin x f → MayBegin w f
+still-may x w f same may =
+    let here : region_at w.drive (size_word f.rec) ≡ region_at x.drive (size_word f.rec) =
+    same.drive.regions (size_word f.rec) (omega arith) in
+    record {
+      number = may.number;
+      low = may.low;
+      size = record {
+        within = (let within = may.size.within in let long = same.drive.long in
+            omega (arith, within, long));
+        word = subst (λ (s : Seen WordStep). 0 < length (words_of s)) (sym here) may.size.word;
+      };
+      clear = subst (λ (s : Seen WordStep). AllImages s (λ words. get_or words 0 0 ≡ 0)) (sym here)
+          may.clear;
+      other = subst (OfEachFile (λ g. (g.ino ≢ f.ino) × (g.rec ≢ f.rec))) (sym same.files)
+          may.other;
+    }
 
--- what is shown of another world with these devices and files, and with a tree that is stored
-log-shown : (tree : Namespace) (old new : World) → new.drive ≡ old.drive →
-    new.files ≡ old.files → tree_of new.names.now ≡ tree → AreFilesShown old →
-    IsTreeStored tree new → AreMappedOnce old → IsWhole new
-log-shown tree old new drive files now shown stored mapped = (
-  subst (λ f. IsShown (record new { files = f })) (sym files)
-      (subst (λ d. AreFilesShown (record new { files = old.files; drive = d }) →
-      IsShown (record new { files = old.files })) drive (λ all. record {
-        files = all.files;
-        apart = all.apart;
-        placed = all.placed;
-        equipped = all.equipped;
-        numbers = all.numbers;
-        even = all.even;
-        tree = λ images each.
-            subst (λ t. IsTreeOr t new.names.doubt (recovered images)) (sym now)
-            (stored-recovers tree new stored images each);
-      }) (record {
-        files = shown.files;
-        apart = shown.apart;
-        placed = shown.placed;
-        equipped = shown.equipped;
-        numbers = shown.numbers;
-        even = shown.even;
-      })),
+begins : (x w : World) (list : List Change) → AreWell x list → IsSame x w → AreFilesShown w →
+    AreFilesShown (record w { files = w.files ++ flat_map files_made list })
+begins x w [] well same shown =
+    subst (λ files. AreFilesShown (record w { files = files })) (sym (append-nil w.files)) shown
+begins x w (change ∷ rest) well same shown =
+    subst (λ (more : List Change). AreFilesShown (record w {
+      files = w.files ++ (files_made change ++ flat_map files_made more);
+    })) (sym well.2)
+    (subst (λ (made : List File). AreFilesShown (record w { files = w.files ++ made }))
+    (sym (append-nil (files_made change)))
+    (begun-shown w change shown
+    (files-map (MayBegin x) (MayBegin w) (λ f may. still-may x w f same may) (files_made change)
+    well.3)))
+
+-- what is shown of another world with these devices, and with a tree that is stored
+log-shown : (tree : Namespace) (new : World) → tree_of new.names.now ≡ tree → AreFilesShown new →
+    IsTreeStored tree new → AreMappedOnce new → IsWhole new
+log-shown tree new now all stored mapped = (
+  record {
+    files = all.files;
+    apart = all.apart;
+    placed = all.placed;
+    equipped = all.equipped;
+    numbers = all.numbers;
+    even = all.even;
+    tree = λ images each.
+        subst (λ t. IsTreeOr t new.names.doubt (recovered images)) (sym now)
+        (stored-recovers tree new stored images each);
+  },
   subst (λ t. IsTreeStored t new) (sym now) stored,
-  subst (λ f. AreMappedOnce (record new { files = f })) (sym files) mapped,
+  mapped,
 )
 
 logged : (x w : World) (c line : ℕ) (request : NameRequest) (step : NameAnswer × Order) →
@@ -154,8 +177,8 @@ logged : (x w : World) (c line : ℕ) (request : NameRequest) (step : NameAnswer
     IsStoring
     (changed_by (tree_of x.names.now) (changes_of x.names.now request (free_record x)))
     (tree_of x.names.now) w →
-    AreMappedOnce w → IsWhole (log_step c line request (free_record x) step w)
-logged x w c line request step is well stored storing mapped =
+    AreMappedOnce w → IsSame x w → IsWhole (log_step c line request (free_record x) step w)
+logged x w c line request step is well stored storing mapped rest =
     let rec : Option ℕ = free_record x in
     let tree : Namespace = tree_of x.names.now in
     let list : List Change = changes_of x.names.now request rec in
@@ -163,13 +186,22 @@ logged x w c line request step is well stored storing mapped =
     let new : World = log_step c line request rec step w in
     let same : changes_of w.names.now request rec ≡ list =
     same-changes w.names.now x.names.now request rec storing.now_is in
-    let files : new.files ≡ w.files =
-    ap (λ (changes : List Change). w.files ++ flat_map files_made changes) same
-    ∙ ap (λ (made : List File). w.files ++ made) (none-made tree list well)
-    ∙ append-nil w.files in
+    let files : new.files ≡ w.files ++ flat_map files_made list =
+    ap (λ (changes : List Change). w.files ++ flat_map files_made changes) same in
     let now : tree_of step.1 ≡ after =
     sym (changes-make x.names.now step.1 step.0 c request rec stored.whole is) in
-    log-shown after w new refl files now storing.files
+    let all : AreFilesShown (record w { files = new.files }) =
+    subst (λ fs. AreFilesShown (record w { files = fs })) (sym files)
+    (begins x w list well rest storing.files) in
+    log-shown after new now
+    (record {
+      files = all.files;
+      apart = all.apart;
+      placed = all.placed;
+      equipped = all.equipped;
+      numbers = all.numbers;
+      even = all.even;
+    })
     (record {
       changes = storing.stored.changes;
       count = storing.stored.count;
@@ -179,7 +211,10 @@ logged x w c line request step is well stored storing mapped =
       behind = storing.stored.behind;
       distinct = storing.stored.distinct;
       whole = storing.stored.whole;
-    }) mapped
+    })
+    (files-joined (λ f. HaveOwnKeys f.blocks) w.files
+    (flat_map files_made (changes_of w.names.now request rec)) mapped
+    (all-made-keyed (changes_of w.names.now request rec)))
 
 -- ---- a request
 
@@ -199,12 +234,12 @@ storing-whole tree w storing mapped = (
 )
 
 -- one change at most is stored
-stores-shown : (tree : Namespace) (list : List Change) → AreWell tree list →
-    Leaves (λ w. IsStoring tree tree w × AreMappedOnce w)
+stores-shown : (x : World) (tree : Namespace) (list : List Change) → tree_of x.names.now ≡ tree →
+    AreWell x list → Leaves (λ w. IsStoring tree tree w × AreMappedOnce w)
     (λ u w. IsStoring (changed_by tree list) tree w × AreMappedOnce w) IsWhole
     (each list store_change)
-stores-shown tree [] well = leave-give (λ w holds. holds)
-stores-shown tree (change ∷ rest) well =
+stores-shown x tree [] is well = leave-give (λ w holds. holds)
+stores-shown x tree (change ∷ rest) is well =
     subst (λ (more : List Change). Leaves (λ w. IsStoring tree tree w × AreMappedOnce w)
     (λ u w. IsStoring (changed_by tree (change ∷ more)) tree w × AreMappedOnce w) IsWhole
     (each (change ∷ more) store_change)) (sym well.2)
@@ -213,7 +248,9 @@ stores-shown tree (change ∷ rest) well =
     {Q = λ u w. IsStoring (changed_by tree (change ∷ [])) tree w × AreMappedOnce w}
     {E = λ w. IsStoring tree tree w × AreMappedOnce w}
     (λ w holds. holds) (λ u w holds. holds) (λ w holds. storing-whole tree w holds.0 holds.1)
-    (leave-both (store-shown tree change well.0 well.1 (checkpoint-shown tree))
+    (leave-both (store-shown tree change well.0
+    (subst (λ t. IsTree (changed t change).nodes (changed t change).next) is well.1)
+    (checkpoint-shown tree))
     (leave-mapped (kept-store (law_of (mapped_law 0)).base change)))) (λ u.
     leave-give (λ w holds. holds)))
 
@@ -233,22 +270,30 @@ asked c line request x well stored =
     × ((w ≡ x) × IsWhole w)}
     (leave-known _ _ (λ w holds. holds.1)) (λ step.
     leave-then {Q = λ u w. (step_in x c request (free_record x) ≡ Some step)
-    × (IsStoring (changed_by (tree_of x.names.now)
+    × ((IsStoring (changed_by (tree_of x.names.now)
     (changes_of x.names.now request (free_record x))) (tree_of x.names.now) w
-    × AreMappedOnce w)}
+    × AreMappedOnce w) × IsSame x w)}
     (leave-beside
     (leave-weaker
-    {P = λ w. IsStoring (tree_of x.names.now) (tree_of x.names.now) w × AreMappedOnce w}
+    {P = λ w. (IsStoring (tree_of x.names.now) (tree_of x.names.now) w × AreMappedOnce w)
+    × IsSame x w}
+    {E = λ w. IsWhole w × IsSame x w}
     (λ w holds. (
-      subst (λ (v : World). IsStoring (tree_of v.names.now) (tree_of v.names.now) w) holds.0
-          (whole-storing w holds.1),
-      holds.1.2,
-    )) (λ u w q. q) (λ w e. e)
-    (stores-shown (tree_of x.names.now) (changes_of x.names.now request (free_record x)) well)))
+      (
+        subst (λ (v : World). IsStoring (tree_of v.names.now) (tree_of v.names.now) w) holds.0
+            (whole-storing w holds.1),
+        holds.1.2,
+      ),
+      subst (IsSame x) (sym holds.0) (same-itself x),
+    )) (λ u w q. q) (λ w e. e.0)
+    (leave-both
+    (stores-shown x (tree_of x.names.now) (changes_of x.names.now request (free_record x)) refl
+    well)
+    (r-stores x (changes_of x.names.now request (free_record x))))))
     (λ u.
     leave-then {Q = λ v. IsWhole}
     (leave-changes (λ w holds.
-    logged x w c line request step holds.0 well stored holds.1.0 holds.1.1)) (λ v.
+    logged x w c line request step holds.0 well stored holds.1.0.0 holds.1.0.1 holds.1.1)) (λ v.
     leave-give (λ w whole. whole))))
 
 pub ask-shown : (c line : ℕ) (request : NameRequest) →

@@ -58,7 +58,7 @@ use Rattle.cfs_meaning.proofs.Total.{IfEnds, with_attempt}
 -- ---- operations on one table
 
 -- operations at one place are operations on one region
-placed-ops : (r : ℕ) (ops : List WordOp) → on_tables (at_place r ops) ≡ on_region r ops
+pub placed-ops : (r : ℕ) (ops : List WordOp) → on_tables (at_place r ops) ≡ on_region r ops
 placed-ops r [] = refl
 placed-ops r (op ∷ before) =
     in-order (λ (p : PlacedOp). Word p.place p.op) (record { place = r; op = op })

@@ -21,3 +21,4 @@ pub mod Real
 pub mod Home
 pub mod Stock
 pub mod Trees
+pub mod Admits
