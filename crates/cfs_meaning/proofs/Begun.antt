@@ -1,29 +1,27 @@
 -- A file that begins empty is shown by its devices.
-use Rattle.std.proofs.Common.{◌≡◌, ◌≢◌, ℕ, zero, suc, ◌+◌, ◌-◌, ◌<◌, ◌≤◌, Bool, true, false, Option}
-use Rattle.std.proofs.Common.{Some, None, List, [], ◌∷◌, ◌++◌, length, get_or, replicate, refl, sym, ap}
+use Rattle.std.proofs.Common.{◌≡◌, ◌≢◌, ℕ, zero, suc, ◌-◌, ◌<◌, Bool, true, false}
+use Rattle.std.proofs.Common.{None, List, [], ◌∷◌, ◌++◌, get_or, replicate, refl, sym, ap}
 use Rattle.std.proofs.Common.{◌∙◌, subst, arith, if◌then◌else◌}
-use Rattle.std.specs.Prelude.{◌==◌, ◌||◌}
+use Rattle.std.specs.Prelude.{◌==◌}
 use Rattle.std.specs.List.{Contains}
-use Rattle.std.proofs.lemmas.Bool.{eq-eqb}
 use Rattle.std.proofs.lemmas.List.{append-nil, length-replicate}
 use Rattle.cfs_file.specs.declared.sizes.TheConstants.{FILE_BLOCKS}
-use Rattle.cfs_core.specs.declared.flag.Flag.{Flag}
 use Rattle.cfs_core.specs.declared.flag.Flag.TheVariants.{Off}
 use Rattle.cfs_core.specs.Medium.{is_size}
 use Rattle.cfs_core.specs.Words.{blank, can_be, is_off, track}
 use Rattle.cfs_dir.specs.declared.change.Change.{Change}
 use Rattle.cfs_dir.specs.declared.change.Change.TheVariants as changes
 use Rattle.cfs_dir.specs.Namespace.{is_directory}
-use Rattle.cfs_pmem.specs.Images.{AllImages, IsImage, Seen, WordStep}
+use Rattle.cfs_pmem.specs.Images.{AllImages, IsImage, WordStep}
 use Rattle.cfs_pmem.specs.Objects.{IsEachImage}
 use Rattle.cfs_pmem.proofs.ImageLemmas.{now_is_image}
 use Rattle.cfs_medium.specs.Shows.{BlockFits, BlockShown, Shows, SlotFits, holding, is_for}
 use Rattle.cfs_medium.specs.World as media
 use Rattle.cfs_meaning.specs.Drive.{Drive, region_at}
 use Rattle.cfs_meaning.specs.Steps.{size_word}
-use Rattle.cfs_meaning.specs.World.{File, World, block_of, devices_of, empty_core, held_at, new_file}
+use Rattle.cfs_meaning.specs.World.{File, World, empty_core, new_file}
 use Rattle.cfs_meaning.specs.Names.{files_made}
-use Rattle.cfs_meaning.specs.Devices.{AllApart, AreApart, HaveOwnNumbers, IsFileEquipped}
+use Rattle.cfs_meaning.specs.Devices.{AreApart, HaveOwnNumbers, IsFileEquipped}
 use Rattle.cfs_meaning.specs.Devices.{IsFileShown, IsPlaced, OfEachFile, devices_of_file}
 use Rattle.cfs_meaning.specs.Trees.{MayBegin}
 use Rattle.cfs_meaning.proofs.Keyed.{files-joined}

@@ -1,11 +1,11 @@
 -- What is stored for a request leaves the files and all regions beside those of the tree.
-use Rattle.std.proofs.Common.{◌≡◌, ◌≢◌, ℕ, ◌+◌, ◌%◌, ◌<◌, ◌≤◌, Bool, true, false, List, [], ◌∷◌, ◌++◌}
-use Rattle.std.proofs.Common.{get_or, length, map, set, suc, refl, sym, ap, ◌∙◌, subst, if◌then◌else◌, arith, is_some}
-use Rattle.std.specs.Prelude.{reverse, ◌==◌, nat_lt}
-use Rattle.std.proofs.lemmas.List.{get_or-set_other, length-set, set-get_or}
+use Rattle.std.proofs.Common.{◌≡◌, ℕ, ◌+◌, ◌<◌, ◌≤◌, Bool, true, false, List, [], ◌∷◌}
+use Rattle.std.proofs.Common.{get_or, length, map, suc, refl, sym, ◌∙◌, subst, if◌then◌else◌, arith, is_some}
+use Rattle.std.specs.Prelude.{reverse, ◌==◌}
+use Rattle.std.proofs.lemmas.List.{get_or-set_other, length-set}
 use Rattle.cfs_dir.specs.declared.change.Change.{Change}
 use Rattle.cfs_dir.specs.Words.{table_words}
-use Rattle.cfs_pmem.specs.WordOps.{WordOp, get, persist, put, set_ops}
+use Rattle.cfs_pmem.specs.WordOps.{WordOp, persist, set_ops}
 use Rattle.cfs_journal.specs.Records.{record_ops}
 use Rattle.cfs_journal.specs.Standing.{place}
 use Rattle.cfs_ckpt.specs.Placed.{at_place}
@@ -24,7 +24,6 @@ use Rattle.cfs_meaning.proofs.Hoare.{Leaves, leave-changes, leave-give, leave-lo
 use Rattle.cfs_meaning.proofs.Hoare.{leave-tries, leave-unless, leave-weaker}
 use Rattle.cfs_meaning.proofs.ShownOpen.{leave-each}
 use Rattle.cfs_meaning.proofs.ShownSaves.{placed-ops}
-use Rattle.cfs_meaning.proofs.Total.{with_attempt}
 
 -- as many regions, and the same ones beside those of the tree
 pub record AreSame (old new : Drive) : Type 0 where

@@ -1,10 +1,10 @@
 -- What a request on names changes of a tree: one thing at most, behind which it is a tree again.
-use Rattle.std.proofs.Common.{◌≡◌, ◌≢◌, ℕ, zero, suc, ◌+◌, ◌<◌, ◌≤◌, ◌^◌, Bool, true, false, not, Option}
+use Rattle.std.proofs.Common.{◌≡◌, ◌≢◌, ℕ, ◌+◌, ◌<◌, ◌^◌, Bool, true, false, not, Option}
 use Rattle.std.proofs.Common.{Some, None, List, [], ◌∷◌, length, refl, sym, ap, ◌∙◌, subst, arith}
-use Rattle.std.proofs.Common.{if◌then◌else◌, is_some, cond}
-use Rattle.std.specs.Prelude.{Result, Ok, Err, ◌==◌, ◌||◌, find, nat_lt}
-use Rattle.std.specs.List.{list_any, range_with_len}
-use Rattle.std.proofs.lemmas.Bool.{and_parts, eqb-false, ltb-true, or_parts}
+use Rattle.std.proofs.Common.{if◌then◌else◌, cond}
+use Rattle.std.specs.Prelude.{Result, Ok, Err, ◌==◌, nat_lt}
+use Rattle.std.specs.List.{list_any}
+use Rattle.std.proofs.lemmas.Bool.{eqb-false, ltb-true, or_parts}
 use Rattle.cfs_core_laws.proofs.Finds.{find-passes}
 use Rattle.cfs_cred.specs.declared.credential.Credential.{Credential}
 use Rattle.cfs_cred.specs.declared.want.Want.TheVariants.{Write}
@@ -20,7 +20,6 @@ use Rattle.cfs_dir.specs.declared.posix.Posix.TheVariants.{AlreadyExists, Direct
 use Rattle.cfs_dir.specs.declared.posix.Posix.TheVariants.{IsADirectory}
 use Rattle.cfs_dir.specs.declared.posix.Posix.TheVariants.{NotADirectory, PermissionDenied}
 use Rattle.cfs_dir.specs.declared.posix.Posix.TheVariants.{TooManyFiles}
-use Rattle.cfs_dir.specs.Change.{IsTellable, changed}
 use Rattle.cfs_dir.specs.Moved.{CanMove, change_of}
 use Rattle.cfs_dir.specs.Namespace.{Namespace, has_child, is_directory, node_at, placed}
 use Rattle.cfs_dir.specs.Path.{ArePathNames}
@@ -39,18 +38,15 @@ use Rattle.cfs_requests.specs.declared.opening.Opening.TheVariants.{Found, Made}
 use Rattle.cfs_requests.specs.Looks.{by_tree, makes, moves, opens, removal_refusal, removes}
 use Rattle.cfs_requests.specs.Looks.{unless_words, unlinks}
 use Rattle.cfs_requests.specs.Opens.{found, found_when, has_access, made_or, opened, words_refusal}
-use Rattle.cfs_requests.specs.Steps.{makes_directory, moves_node, removes_directory, unlinks_file}
-use Rattle.cfs_script.specs.declared.form.Form.{Form}
 use Rattle.cfs_script.specs.declared.form.Form.TheVariants as forms
-use Rattle.cfs_meaning.specs.NameSteps.{changes_of, made_changes, moved_changes, removed_changes}
+use Rattle.cfs_meaning.specs.NameSteps.{made_changes, moved_changes, removed_changes}
 use Rattle.cfs_meaning.specs.NameSteps.{opening_changes, stands, tree_of}
 use Rattle.cfs_words.specs.declared.flags.Flags.{Flags}
 use Rattle.cfs_meaning.specs.World as meaning
 use Rattle.cfs_meaning.specs.World.{World, credential_in, is_used, new_file}
 use Rattle.cfs_meaning.specs.Names.{free_record}
 use Rattle.cfs_meaning.specs.Devices.{OfEachFile}
-use Rattle.cfs_meaning.specs.Trees.{AreClear, AreWell, IsBounded, IsStored, LinesChangeWell, MayBegin}
-use Rattle.cfs_meaning.specs.Trees.{NamesSuit}
+use Rattle.cfs_meaning.specs.Trees.{AreClear, AreWell, LinesChangeWell, MayBegin}
 use Rattle.cfs_meaning.proofs.Mapped.{found-low}
 
 -- ---- answers that are Ok

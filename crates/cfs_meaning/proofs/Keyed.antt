@@ -1,12 +1,12 @@
 -- Files whose file blocks have one block each.
-use Rattle.std.proofs.Common.{◌≡◌, ◌≢◌, ◌⊎◌, ℕ, ◌+◌, ◌<◌, ◌≤◌, zero, suc, Bool, true, false, Option}
-use Rattle.std.proofs.Common.{Some, None, List, [], ◌∷◌, ◌++◌, map, filter, inl, inr, refl, sym, ap}
+use Rattle.std.proofs.Common.{◌≡◌, ◌≢◌, ◌⊎◌, ℕ, ◌+◌, ◌≤◌, zero, suc, Bool, true, false, Option}
+use Rattle.std.proofs.Common.{Some, List, [], ◌∷◌, ◌++◌, map, filter, inl, inr, refl, sym, ap}
 use Rattle.std.proofs.Common.{◌∙◌, subst, cond, if◌then◌else◌, arith}
-use Rattle.std.specs.Prelude.{find, unwrap_or, ◌==◌, is_none, not}
+use Rattle.std.specs.Prelude.{find, unwrap_or, ◌==◌, is_none}
 use Rattle.std.specs.Option.{option_map}
 use Rattle.std.specs.List.{flat_map, range_with_len}
-use Rattle.std.proofs.lemmas.Bool.{eq-eqb, eqb-false, eqb-true, ne_eqb}
-use Rattle.cfs_meaning.specs.World.{File, World, block_of, file_in, find_file, new_file, replaces}
+use Rattle.std.proofs.lemmas.Bool.{eqb-false, eqb-true, ne_eqb}
+use Rattle.cfs_meaning.specs.World.{File, World, block_of, file_in, new_file, replaces}
 use Rattle.cfs_meaning.specs.Devices.{OfEachFile}
 use Rattle.cfs_meaning.specs.Stock.{AreMappedOnce, HaveOwnKeys, IsOnlyAt}
 

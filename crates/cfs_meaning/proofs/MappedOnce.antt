@@ -1,6 +1,6 @@
 -- A mount maps each file block once, where no two blocks have one tag.
 use Rattle.std.proofs.Common.{◌≡◌, ◌≢◌, ℕ, zero, suc, ◌+◌, ◌<◌, ◌≤◌, Bool, true, false, List, []}
-use Rattle.std.proofs.Common.{◌∷◌, ◌++◌, length, map, filter, refl, sym, ap, ◌∙◌, subst, cond, arith}
+use Rattle.std.proofs.Common.{◌∷◌, ◌++◌, length, map, filter, refl, sym, ◌∙◌, subst, cond, arith}
 use Rattle.std.specs.Prelude.{◌==◌}
 use Rattle.std.specs.List.{flat_map, range_with_len}
 use Rattle.std.proofs.lemmas.Bool.{eqb-true}
@@ -9,12 +9,11 @@ use Rattle.cfs_block.specs.BlockImages.{content_of}
 use Rattle.cfs_dir.specs.declared.node.Node.{Node}
 use Rattle.cfs_medium.specs.Store.{tag_of}
 use Rattle.cfs_meaning.specs.Drive.{Drive, content_at}
-use Rattle.cfs_meaning.specs.World.{Caller}
-use Rattle.cfs_meaning.specs.Mounting.{block_numbers, files_of, mapped, mounted_file, mounted_world}
+use Rattle.cfs_meaning.specs.Mounting.{files_of, mapped, mounted_file}
 use Rattle.cfs_meaning.specs.Mounting.{recovered_tree}
 use Rattle.cfs_meaning.specs.Devices.{OfEachFile}
 use Rattle.cfs_meaning.specs.Home.{new_drive}
-use Rattle.cfs_meaning.specs.Stock.{AreMappedOnce, HaveOwnKeys, IsOnlyAt, MountsMapOnce}
+use Rattle.cfs_meaning.specs.Stock.{HaveOwnKeys, IsOnlyAt, MountsMapOnce}
 use Rattle.cfs_meaning.specs.Stock.{TagsAreApart}
 use Rattle.cfs_meaning.proofs.Keyed.{only-more}
 use Rattle.cfs_meaning.proofs.Mapped.{pairs}

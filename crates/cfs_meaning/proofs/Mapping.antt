@@ -1,9 +1,9 @@
 -- Each line keeps files whose file blocks have one block each.
-use Rattle.std.proofs.Common.{◌≡◌, ◌≢◌, ℕ, ◌+◌, ◌<◌, ◌≤◌, zero, suc, Bool, true, false, List, []}
-use Rattle.std.proofs.Common.{◌∷◌, ◌++◌, map, filter, Option, Some, None, refl, sym, ap, ◌∙◌}
-use Rattle.std.proofs.Common.{subst, cond, if◌then◌else◌, arith}
-use Rattle.std.specs.Prelude.{Result, Ok, Err, ◌==◌}
-use Rattle.std.specs.List.{flat_map, range_with_len}
+use Rattle.std.proofs.Common.{◌≡◌, ℕ, Bool, true, false, List, []}
+use Rattle.std.proofs.Common.{◌∷◌}
+use Rattle.std.proofs.Common.{if◌then◌else◌}
+use Rattle.std.specs.Prelude.{Result, Ok, Err}
+use Rattle.std.specs.List.{flat_map}
 use Rattle.cfs_dir.specs.declared.change.Change.{Change}
 use Rattle.cfs_dir.specs.declared.change.Change.TheVariants as changes
 use Rattle.cfs_dir.specs.Namespace.{is_directory}
@@ -11,11 +11,11 @@ use Rattle.cfs_print.specs.declared.out_line.OutLine.{OutLine}
 use Rattle.cfs_script.specs.declared.line.Line.{Line}
 use Rattle.cfs_meaning.specs.NameSteps.{changes_of}
 use Rattle.cfs_meaning.specs.Names.{files_made}
-use Rattle.cfs_meaning.specs.World.{File, World, core_in, file_in, new_file}
-use Rattle.cfs_meaning.specs.Play.{Run, Step, goes_on, run_ends, steps_so}
+use Rattle.cfs_meaning.specs.World.{File, World, new_file}
+use Rattle.cfs_meaning.specs.Play.{Step, goes_on, run_ends, steps_so}
 use Rattle.cfs_meaning.specs.Ways.{Halt, Way}
 use Rattle.cfs_meaning.specs.Devices.{OfEachFile}
-use Rattle.cfs_meaning.specs.Laws.{HaveNoMount, is_mount}
+use Rattle.cfs_meaning.specs.Laws.{is_mount}
 use Rattle.cfs_meaning.specs.Stock.{AreMappedOnce, HaveOwnKeys, RunsKeepMapped}
 use Rattle.cfs_meaning.proofs.Hoare.{Leaves}
 use Rattle.cfs_meaning.proofs.Keeping.{Any, Keeps}

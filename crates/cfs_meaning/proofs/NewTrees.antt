@@ -1,24 +1,21 @@
 -- The journal and the checkpoint of a new store stand for its tree.
-use Rattle.std.proofs.Common.{◌≡◌, ◌≢◌, ℕ, zero, suc, ◌+◌, ◌-◌, ◌<◌, ◌≤◌, None, List, [], ◌∷◌, ◌++◌}
+use Rattle.std.proofs.Common.{◌≡◌, ℕ, zero, suc, ◌+◌, ◌-◌, ◌<◌, None, List, [], ◌∷◌, ◌++◌}
 use Rattle.std.proofs.Common.{length, map, drop, take, get_or, replicate, refl, sym, ap, ◌∙◌, subst}
 use Rattle.std.proofs.Common.{arith, false, inl, inr, if◌then◌else◌}
-use Rattle.std.specs.Prelude.{min}
 use Rattle.std.specs.List.{range_with_len}
 use Rattle.std.proofs.lemmas.Bool.{ne_eqb}
 use Rattle.std.proofs.lemmas.Bool.Decides.{nat_tests}
-use Rattle.std.proofs.lemmas.List.{ext_get_or, get_or-drop, get_or-take, length-append, length-map}
+use Rattle.std.proofs.lemmas.List.{ext_get_or, get_or-drop, get_or-take, length-append}
 use Rattle.std.proofs.lemmas.List.{length-replicate, length-take}
 use Rattle.std.proofs.lemmas.List.FromFn.{get_or-map-range_with_len, length-map-range_with_len}
 use Rattle.cfs_pmem.specs.AllMoments.{AreApart, AreDistinct, IsApartFrom}
 use Rattle.cfs_pmem.specs.Images as regions
 use Rattle.cfs_pmem.specs.Images.{AllImages, IsImage, IsSure, Seen, WordStep, devices_of, words_of}
-use Rattle.cfs_pmem.specs.Objects.{IsEachImage, all_devices, seen_at}
+use Rattle.cfs_pmem.specs.Objects.{all_devices, seen_at}
 use Rattle.cfs_pmem.proofs.ImageLemmas.{sure_began}
-use Rattle.cfs_dir.specs.Namespace.{Namespace}
-use Rattle.cfs_dir.specs.Tree.{IsTree}
 use Rattle.cfs_journal.specs.Standing.{AreBlank, Standing, changes_above}
 use Rattle.cfs_journal.proofs.Standings.{blank_stands}
-use Rattle.cfs_ckpt.specs.Loads.{CanLoad, Loaded, loaded}
+use Rattle.cfs_ckpt.specs.Loads.{Loaded, loaded}
 use Rattle.cfs_ckpt.specs.Selects.{AreFresh, Selects}
 use Rattle.cfs_ckpt.proofs.LoadLemmas.{each_at}
 use Rattle.cfs_ckpt.proofs.SelectLemmas.{fresh_selects}

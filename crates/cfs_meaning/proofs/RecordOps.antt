@@ -1,14 +1,14 @@
 -- The operations of a record of the journal on its region.
 use Rattle.std.proofs.Common.{◌≡◌, ℕ, zero, suc, ◌+◌, ◌-◌, ◌<◌, ◌≤◌, Bool, true, false, List, [], ◌∷◌}
-use Rattle.std.proofs.Common.{◌++◌, length, get_or, drop, Option, Some, None, set, refl, sym, ap, ◌∙◌}
+use Rattle.std.proofs.Common.{◌++◌, length, get_or, drop, Option, Some, None, set, refl, ap, ◌∙◌}
 use Rattle.std.proofs.Common.{subst, arith}
-use Rattle.std.specs.Prelude.{Ok, Err, unwrap_or}
+use Rattle.std.specs.Prelude.{unwrap_or}
 use Rattle.cfs_dir.specs.declared.change.Change.{Change}
 use Rattle.cfs_dir.specs.Change.{IsTellable}
 use Rattle.cfs_dir.specs.Words.{change_words}
 use Rattle.cfs_pmem.specs.declared.trace.Asked.{Asked}
 use Rattle.cfs_pmem.specs.declared.trace.Asked.TheVariants.{Step}
-use Rattle.cfs_pmem.specs.Images.{AllImages, Seen, WordStep, devices_of, failed, kept, words_of}
+use Rattle.cfs_pmem.specs.Images.{Seen, WordStep, failed, kept, words_of}
 use Rattle.cfs_pmem.specs.Images.{wrote}
 use Rattle.cfs_pmem.specs.Objects.{seen_at}
 use Rattle.cfs_pmem.specs.Operations.{LastFails, after_all}
@@ -25,7 +25,7 @@ use Rattle.cfs_journal.proofs.RecordLemmas.{length-change_words, record_at_gate,
 use Rattle.cfs_journal.proofs.RecordLemmas.{record_at_words, record_whole}
 use Rattle.cfs_journal.proofs.Standings.{closed_next, grown, next_closing, next_writing, renewed}
 use Rattle.cfs_meaning.proofs.RegionOps.{EndsWords, IsLike, ends-like}
-use Rattle.cfs_meaning.proofs.ShownGates.{EndsSet, answer_of, ends-long, sets}
+use Rattle.cfs_meaning.proofs.ShownGates.{EndsSet, answer_of, sets}
 
 -- ---- words that are written
 

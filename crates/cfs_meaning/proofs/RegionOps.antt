@@ -1,14 +1,13 @@
 -- A list of operations on one region of a drive: what the region is behind it, and its images.
-use Rattle.std.proofs.Common.{◌≡◌, ◌⊎◌, ℕ, zero, suc, ◌+◌, ◌<◌, Bool, true, false, List, [], ◌∷◌}
-use Rattle.std.proofs.Common.{◌++◌, length, map, drop, set, inl, inr, refl, sym, ap, ◌∙◌, subst}
-use Rattle.std.proofs.Common.{if◌then◌else◌, arith}
+use Rattle.std.proofs.Common.{◌≡◌, ℕ, suc, ◌<◌, Bool, true, false, List, [], ◌∷◌}
+use Rattle.std.proofs.Common.{length, map, drop, refl, sym, ap, ◌∙◌, subst}
+use Rattle.std.proofs.Common.{arith}
 use Rattle.std.specs.Prelude.{reverse}
 use Rattle.std.proofs.lemmas.List.{get_or-set_same, length-set, set-get_or, set-set}
 use Rattle.cfs_pmem.specs.declared.trace.Asked.{Asked}
-use Rattle.cfs_pmem.specs.Images.{AllImages, IsImage, Seen, WordStep, devices_of, words_of}
+use Rattle.cfs_pmem.specs.Images.{Seen, WordStep, devices_of, words_of}
 use Rattle.cfs_pmem.specs.Operations.{LastFails, after_all}
 use Rattle.cfs_pmem.specs.WordOps.{WordFails, WordOp, WordsStopIn, get, persist, put, word_done}
-use Rattle.cfs_pmem.proofs.ImageLemmas.{all_failed, all_kept, all_wrote, now_is_image}
 use Rattle.cfs_meaning.specs.Drive.{Attempt, Drive, Op, Word, attempt, on_region, region_at}
 use Rattle.cfs_meaning.specs.Drive.{word_refused}
 use Rattle.cfs_meaning.specs.Devices.{IsEvenRegion}

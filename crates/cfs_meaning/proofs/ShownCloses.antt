@@ -1,29 +1,27 @@
 -- A close keeps a world shown by its devices.
-use Rattle.std.proofs.Common.{◌≡◌, ℕ, Bool, true, false, Option, Some, None, List, ◌++◌, refl, sym}
+use Rattle.std.proofs.Common.{◌≡◌, ℕ, Bool, true, false, Option, Some, None, List, refl, sym}
 use Rattle.std.proofs.Common.{ap, ◌∙◌, subst, if◌then◌else◌}
-use Rattle.std.specs.Prelude.{Result, Ok, Err, ◌==◌, set}
+use Rattle.std.specs.Prelude.{◌==◌, set}
 use Rattle.std.proofs.lemmas.List.{append-nil}
 use Rattle.cfs_grants.specs.declared.grant.Grant.{Grant}
 use Rattle.cfs_grants.specs.Grants.{grant_at}
-use Rattle.cfs_print.specs.declared.printed.Printed.{Printed}
 use Rattle.cfs_requests.specs.Steps.{NameAnswer, close_step}
 use Rattle.cfs_requests.specs.Steps as names
 use Rattle.cfs_names.specs.Recovered.{IsTreeOr, recovered}
-use Rattle.cfs_script.specs.declared.form.Form.TheVariants as forms
 use Rattle.cfs_meaning.specs.NameSteps.{Order, closing, tree_of}
-use Rattle.cfs_meaning.specs.World.{Descriptor, File, World, core_in, file_in}
+use Rattle.cfs_meaning.specs.World.{Descriptor, World, file_in}
 use Rattle.cfs_meaning.specs.Inode.{drop_read, purge, settle}
-use Rattle.cfs_meaning.specs.Names.{ask, ask_and_purge, dying, free_record, log_step, purge_all}
-use Rattle.cfs_meaning.specs.Names.{refusal_answer, say_named, step_in}
-use Rattle.cfs_meaning.specs.Files.{close, collect, help_lowest, help_some, lowest, opened}
-use Rattle.cfs_meaning.specs.Devices.{IsShown, IsTreeShown}
+use Rattle.cfs_meaning.specs.Names.{ask, dying, free_record, log_step, purge_all}
+use Rattle.cfs_meaning.specs.Names.{step_in}
+use Rattle.cfs_meaning.specs.Files.{close, help_lowest, help_some, lowest, opened}
+use Rattle.cfs_meaning.specs.Devices.{IsShown}
 use Rattle.cfs_meaning.specs.Play.{does, steps_so}
 use Rattle.cfs_meaning.specs.Stock.{AreMappedOnce, ClosesKeepShown, HaveOwnKeys}
-use Rattle.cfs_meaning.specs.Ways.{Halt, Now, Way, each, when, ◌>>=◌, ◌>>◌}
+use Rattle.cfs_meaning.specs.Ways.{Way, each, when}
 use Rattle.cfs_meaning.proofs.Hoare.{Leaves, leave-changes, leave-give, leave-known, leave-look}
 use Rattle.cfs_meaning.proofs.Hoare.{leave-then, leave-weaker}
-use Rattle.cfs_meaning.proofs.Keeping.{Any, Keeps}
-use Rattle.cfs_meaning.proofs.KeptFiles.{kept-collect, kept-help}
+use Rattle.cfs_meaning.proofs.Keeping.{Keeps}
+use Rattle.cfs_meaning.proofs.KeptFiles.{kept-help}
 use Rattle.cfs_meaning.proofs.KeptInode.{kept-drop, kept-purge, kept-settle}
 use Rattle.cfs_meaning.proofs.Keyed.{keyed-in}
 use Rattle.cfs_meaning.proofs.Mapping.{leave-mapped, mapped_law}
@@ -37,7 +35,6 @@ use Rattle.cfs_meaning.proofs.ShownOpen.{open-settle}
 use Rattle.cfs_meaning.proofs.ShownParts.{same-shown}
 use Rattle.cfs_meaning.proofs.ShownPurges.{purge-shown}
 use Rattle.cfs_meaning.proofs.ShownTurns.{AllWork, at-work, leave-kept, part-all}
-use Rattle.cfs_meaning.proofs.Total.{IfEnds}
 use Rattle.cfs_meaning.proofs.Worlds.{law_of}
 
 -- ---- removed files are purged

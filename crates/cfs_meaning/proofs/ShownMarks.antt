@@ -1,6 +1,6 @@
 -- A mark keeps a world shown by its devices.
-use Rattle.std.proofs.Common.{◌≡◌, ℕ, ◌+◌, ◌-◌, ◌<◌, ◌≤◌, Bool, true, false, not, ◌&&◌, ◌||◌, Option, Some}
-use Rattle.std.proofs.Common.{None, List, [], ◌∷◌, length, map, get_or, inl, inr, refl, sym, ap, ◌∙◌}
+use Rattle.std.proofs.Common.{◌≡◌, ℕ, ◌+◌, ◌-◌, ◌<◌, Bool, true, false, not, ◌&&◌, ◌||◌, Some}
+use Rattle.std.proofs.Common.{List, [], ◌∷◌, length, map, get_or, inl, refl, sym, ap, ◌∙◌}
 use Rattle.std.proofs.Common.{subst, arith, if◌then◌else◌}
 use Rattle.std.specs.Prelude.{Result, Ok, Err, ◌==◌}
 use Rattle.std.specs.List.{Contains}
@@ -13,14 +13,13 @@ use Rattle.cfs_core.specs.declared.track.Track.{Track}
 use Rattle.cfs_core.specs.After.{after}
 use Rattle.cfs_core.specs.Good.{IsGood}
 use Rattle.cfs_core.specs.May.{case, is_in_phase, may}
-use Rattle.cfs_core.specs.Words.{blank, is_live, is_off, is_waiting, track}
+use Rattle.cfs_core.specs.Words.{blank, is_off, is_waiting, track}
 use Rattle.cfs_core.proofs.Alive.{waiting_lives}
 use Rattle.cfs_core.proofs.Goods.{good-kept}
 use Rattle.cfs_core.proofs.Order.{is_query_state, is_query_track, some_place, track_is}
 use Rattle.cfs_core_laws.specs.Reached.{IsReached}
 use Rattle.cfs_core_laws.specs.Reached as reaching
 use Rattle.cfs_core_laws.proofs.Whole.{whole}
-use Rattle.cfs_pmem.specs.declared.trace.Asked.{Asked}
 use Rattle.cfs_pmem.specs.Images.{Seen, WordStep, words_of}
 use Rattle.cfs_medium.specs.Shows.{Shows}
 use Rattle.cfs_medium.specs.SlotEvents.{IsBesideDoubt}
@@ -30,7 +29,7 @@ use Rattle.cfs_medium.proofs.SlotEvents.{marks-show}
 use Rattle.cfs_meaning.specs.Admits.{HaveMarks, MarksKeepShown}
 use Rattle.cfs_meaning.specs.Drive.{Drive, Op, attempt, region_at}
 use Rattle.cfs_meaning.specs.Steps.{marked}
-use Rattle.cfs_meaning.specs.World.{File, World, core_in, devices_of, file_in, find_file, head_of}
+use Rattle.cfs_meaning.specs.World.{File, World, core_in, file_in, find_file, head_of}
 use Rattle.cfs_meaning.specs.World.{held_at, with_core}
 use Rattle.cfs_meaning.specs.Devices.{IsShown, devices_of_file, needs_slots}
 use Rattle.cfs_meaning.specs.Inode.{mark}
@@ -41,7 +40,7 @@ use Rattle.cfs_meaning.proofs.ShownGates.{even-at, found-by, here-is, reached-of
 use Rattle.cfs_meaning.proofs.ShownGates.{shows-of}
 use Rattle.cfs_meaning.proofs.ShownJobs.{AtWork}
 use Rattle.cfs_meaning.proofs.ShownNeeds.{less-after}
-use Rattle.cfs_meaning.proofs.ShownRegions.{HasHead, has-head, head-shown, with_words}
+use Rattle.cfs_meaning.proofs.ShownRegions.{HasHead, has-head, head-shown}
 use Rattle.cfs_meaning.proofs.Total.{IfEnds, with_attempt}
 
 -- a world where a mark may be made

@@ -1,6 +1,6 @@
 -- A removed file is purged: that keeps a world shown by its devices.
-use Rattle.std.proofs.Common.{◌≡◌, ◌≢◌, ◌⊎◌, ℕ, ◌+◌, ◌<◌, ◌≤◌, Bool, true, false, not, Option, Some}
-use Rattle.std.proofs.Common.{None, List, [], ◌∷◌, length, filter, inl, inr, refl, sym, ap, ◌∙◌}
+use Rattle.std.proofs.Common.{◌≡◌, ◌≢◌, ◌⊎◌, ℕ, ◌+◌, Bool, true, false, not, Option, Some}
+use Rattle.std.proofs.Common.{None, List, [], ◌∷◌, filter, inl, inr, refl, sym, ap, ◌∙◌}
 use Rattle.std.proofs.Common.{subst, cond, arith}
 use Rattle.std.specs.Prelude.{◌==◌, unwrap_or}
 use Rattle.std.specs.Option.{option_map}
@@ -12,11 +12,11 @@ use Rattle.cfs_pmem.specs.WordOps.{WordOp, persist, put}
 use Rattle.cfs_meaning.specs.Drive.{Op, Word, attempt, region_at}
 use Rattle.cfs_meaning.specs.Steps.{size_word, tag_kept}
 use Rattle.cfs_meaning.specs.World.{File, World, block_of, core_in, file_in, find_file, new_file}
-use Rattle.cfs_meaning.specs.World.{replaces, with_file}
-use Rattle.cfs_meaning.specs.Devices.{HaveOwnNumbers, IsEvenRegion, IsPlaced, IsShown, OfEachFile}
+use Rattle.cfs_meaning.specs.World.{with_file}
+use Rattle.cfs_meaning.specs.Devices.{HaveOwnNumbers, IsEvenRegion, IsPlaced, IsShown}
 use Rattle.cfs_meaning.specs.Inode.{blocks_ascending, clear_size, end_core, give_block}
 use Rattle.cfs_meaning.specs.Inode.{is_size_right, purge, untag, with_size_unsure, without_block}
-use Rattle.cfs_meaning.specs.Ways.{Changes, Way, each, steps, unless_fault, when, ◌>>=◌, ◌>>◌}
+use Rattle.cfs_meaning.specs.Ways.{Changes, Way, each, steps, when, ◌>>◌}
 use Rattle.cfs_meaning.specs.Stock.{HaveOwnKeys}
 use Rattle.cfs_meaning.proofs.Hoare.{Leaves, leave-changes, leave-give, leave-look, leave-then}
 use Rattle.cfs_meaning.proofs.Hoare.{leave-tries, leave-unless, leave-weaker}

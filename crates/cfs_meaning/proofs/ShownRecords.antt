@@ -1,6 +1,6 @@
 -- A change is stored: files stay shown by their devices, and the journal and the checkpoint stand
 -- for the tree behind it, or where a step was refused, for the tree before it.
-use Rattle.std.proofs.Common.{◌≡◌, ℕ, zero, suc, ◌+◌, ◌<◌, ◌≤◌, Bool, true, false, Option, Some, None}
+use Rattle.std.proofs.Common.{◌≡◌, ℕ, zero, suc, ◌+◌, ◌<◌, Bool, true, false, Option, Some, None}
 use Rattle.std.proofs.Common.{List, [], ◌∷◌, ◌++◌, length, inl, inr, refl, sym, ap, ◌∙◌, subst, arith}
 use Rattle.std.proofs.Common.{drop, is_some, set}
 use Rattle.std.specs.Prelude.{◌==◌}
@@ -19,12 +19,12 @@ use Rattle.cfs_journal.specs.Records.{record_ops}
 use Rattle.cfs_journal.specs.Standing.{Standing, place}
 use Rattle.cfs_names.specs.Behind.{AreBehind}
 use Rattle.cfs_names.proofs.Joint.{behind_appended}
-use Rattle.cfs_meaning.specs.Drive.{Attempt, Drive, Op, attempt, on_region, region_at}
+use Rattle.cfs_meaning.specs.Drive.{Attempt, Drive, attempt, on_region, region_at}
 use Rattle.cfs_meaning.specs.Steps.{appended, journal_record, record_closed}
 use Rattle.cfs_meaning.specs.World.{Names, World, with_names}
 use Rattle.cfs_meaning.specs.Names.{checkpoint, doubt_settled, recorded, store_change}
 use Rattle.cfs_meaning.specs.Trees.{records_in, tables_in}
-use Rattle.cfs_meaning.specs.Ways.{Changes, steps, unless_fault, when, ◌>>=◌, ◌>>◌}
+use Rattle.cfs_meaning.specs.Ways.{Changes, steps, unless_fault, when, ◌>>◌}
 use Rattle.cfs_meaning.proofs.Hoare.{Leaves, leave-changes, leave-end, leave-give, leave-look}
 use Rattle.cfs_meaning.proofs.Hoare.{leave-then, leave-tries, leave-weaker}
 use Rattle.cfs_meaning.proofs.RecordOps.{Appended, Settled, closed-stands, record-stands}

@@ -1,11 +1,11 @@
 -- A checkpoint is stored: files stay shown by their devices, and the journal and the checkpoint
 -- stand for the tree, each step done or refused.
-use Rattle.std.proofs.Common.{◌≡◌, ◌⊎◌, ℕ, zero, suc, ◌+◌, ◌-◌, ◌%◌, ◌<◌, ◌≤◌, Bool, true, false}
-use Rattle.std.proofs.Common.{List, [], ◌∷◌, ◌++◌, length, map, get_or, drop, take, set, inl, inr, refl}
+use Rattle.std.proofs.Common.{◌≡◌, ℕ, zero, suc, ◌+◌, ◌-◌, ◌<◌, ◌≤◌, Bool, true, false}
+use Rattle.std.proofs.Common.{List, [], ◌∷◌, ◌++◌, length, get_or, drop, take, set, inl, inr, refl}
 use Rattle.std.proofs.Common.{sym, ap, ◌∙◌, subst, arith}
-use Rattle.std.specs.Prelude.{Result, reverse, nat_lt}
+use Rattle.std.specs.Prelude.{Result, nat_lt}
 use Rattle.std.proofs.lemmas.Bool.{ltb-true}
-use Rattle.std.proofs.lemmas.List.{append-nil, drop-set-lt, drop_all, get_or-set_other}
+use Rattle.std.proofs.lemmas.List.{append-nil, drop-set-lt, drop_all}
 use Rattle.std.proofs.lemmas.List.{get_or-set_same, get_or-take}
 use Rattle.std.proofs.Math.Seq.{take-set-lt}
 use Rattle.cfs_dir.specs.declared.change.Change.{Change}
@@ -13,18 +13,18 @@ use Rattle.cfs_dir.specs.declared.change.Change.TheVariants as changes
 use Rattle.cfs_dir.specs.Namespace.{Namespace}
 use Rattle.cfs_dir.specs.Words.{table_in, table_words}
 use Rattle.cfs_pmem.specs.declared.trace.Asked.{Asked}
-use Rattle.cfs_pmem.specs.Images.{AllImages, IsImage, IsSetFrom, IsSure, Seen, WordStep, devices_of}
-use Rattle.cfs_pmem.specs.Images.{failed, kept, patched, words_of, wrote}
-use Rattle.cfs_pmem.specs.Objects.{IsEachImage, IsImageBut, seen_at}
+use Rattle.cfs_pmem.specs.Images.{AllImages, IsImage, IsSetFrom, IsSure, Seen, WordStep}
+use Rattle.cfs_pmem.specs.Images.{failed, kept, words_of}
+use Rattle.cfs_pmem.specs.Objects.{seen_at}
 use Rattle.cfs_pmem.specs.Operations.{LastFails, after_all}
-use Rattle.cfs_pmem.specs.WordOps.{SetsWord, WordFails, WordOp, persist, puts, set_ops, word_done}
+use Rattle.cfs_pmem.specs.WordOps.{WordFails, WordOp, persist, puts, set_ops, word_done}
 use Rattle.cfs_pmem.proofs.ImageLemmas.{all_failed, all_kept, now_is_image, sure_kept}
 use Rattle.cfs_pmem.proofs.MomentLemmas.{at_end}
 use Rattle.cfs_pmem.proofs.ObjectLemmas.{each_but}
 use Rattle.cfs_pmem.proofs.WordLemmas.{writes_all}
 use Rattle.cfs_journal.specs.Standing.{Standing}
 use Rattle.cfs_journal.proofs.CutLemmas.{cut_down}
-use Rattle.cfs_ckpt.specs.Loads.{CanLoad, Loaded, loaded}
+use Rattle.cfs_ckpt.specs.Loads.{CanLoad, Loaded}
 use Rattle.cfs_ckpt.specs.Placed.{PlacedOp, at_place}
 use Rattle.cfs_ckpt.specs.Selects.{Selects}
 use Rattle.cfs_ckpt.specs.Stores.{free_copy, put_ops, select_ops, settle_ops, word_for}
@@ -40,15 +40,15 @@ use Rattle.cfs_meaning.specs.Drive.{Attempt, Drive, Op, Word, attempt, on_region
 use Rattle.cfs_meaning.specs.NameSteps.{tree_of}
 use Rattle.cfs_meaning.specs.Steps.{on_tables, selector}
 use Rattle.cfs_meaning.specs.World.{Names, World, with_names}
-use Rattle.cfs_meaning.specs.Names.{checkpoint, selected, selector_settled}
+use Rattle.cfs_meaning.specs.Names.{selected, selector_settled}
 use Rattle.cfs_meaning.specs.Trees.{front_in, records_in, tables_in}
 use Rattle.cfs_meaning.specs.Ways.{Changes, Halt, Tries, Way, only_if, steps, unless_fault, when, ◌>>=◌, ◌>>◌}
 use Rattle.cfs_meaning.proofs.Attempts.{in-order}
 use Rattle.cfs_meaning.proofs.Hoare.{Leaves, leave-changes, leave-end, leave-give, leave-look}
-use Rattle.cfs_meaning.proofs.Hoare.{leave-then, leave-tries, leave-weaker}
+use Rattle.cfs_meaning.proofs.Hoare.{leave-then, leave-tries}
 use Rattle.cfs_meaning.proofs.RecordOps.{has-written}
-use Rattle.cfs_meaning.proofs.RegionOps.{EndsWords, IsLike, as-long, ends-like, like-all, words-at}
-use Rattle.cfs_meaning.proofs.ShownGates.{answer_of, sets}
+use Rattle.cfs_meaning.proofs.RegionOps.{EndsWords, IsLike, as-long, ends-like, words-at}
+use Rattle.cfs_meaning.proofs.ShownGates.{sets}
 use Rattle.cfs_meaning.proofs.ShownRecords.{HasRoomNow, MakesRoom, set-ends}
 use Rattle.cfs_meaning.proofs.ShownRegions.{with_words}
 use Rattle.cfs_meaning.proofs.ShownTrees.{IsStoring, distinct-set, front-at, front-changed}

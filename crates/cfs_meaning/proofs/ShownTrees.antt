@@ -1,7 +1,7 @@
 -- Regions of the tree change: files stay shown by their devices, and the journal and the checkpoint
 -- stand for a tree.
-use Rattle.std.proofs.Common.{◌≡◌, ◌≢◌, ℕ, ◌+◌, ◌-◌, ◌<◌, ◌≤◌, Bool, true, false, List, [], ◌∷◌, ◌++◌}
-use Rattle.std.proofs.Common.{length, map, drop, take, get_or, set, refl, sym, ap, ◌∙◌, subst, arith}
+use Rattle.std.proofs.Common.{◌≡◌, ℕ, ◌+◌, ◌<◌, ◌≤◌, List}
+use Rattle.std.proofs.Common.{length, map, drop, take, set, sym, ap, ◌∙◌, subst, arith}
 use Rattle.std.proofs.lemmas.List.{drop-set-add, get_or-drop, get_or-take, length-drop, length-take}
 use Rattle.std.proofs.lemmas.List.{map-set, set-get_or, take-set-le}
 use Rattle.std.proofs.Math.Seq.{take-set-lt}

@@ -1,8 +1,8 @@
 -- What leaves the journal and the checkpoint as they stand for the tree.
-use Rattle.std.proofs.Common.{◌≡◌, ◌⊎◌, ℕ, ◌+◌, ◌<◌, ◌≤◌, Bool, true, false, not, Option, Some, None}
-use Rattle.std.proofs.Common.{List, [], ◌∷◌, length, map, filter, drop, take, inl, inr, refl, sym, ap}
+use Rattle.std.proofs.Common.{◌≡◌, ℕ, Bool, true, false, not}
+use Rattle.std.proofs.Common.{List, [], ◌∷◌, map, drop, take, refl, sym, ap}
 use Rattle.std.proofs.Common.{◌∙◌, subst, if◌then◌else◌, arith}
-use Rattle.std.specs.Prelude.{◌==◌, reverse}
+use Rattle.std.specs.Prelude.{reverse}
 use Rattle.std.proofs.lemmas.List.{take-set-le}
 use Rattle.cfs_block.specs.BlockOps.{BlockOp, retag_ops}
 use Rattle.cfs_dir.specs.Namespace.{Namespace}
@@ -13,11 +13,11 @@ use Rattle.cfs_pmem.specs.WordOps.{WordOp, persist, put}
 use Rattle.cfs_journal.specs.Standing.{Standing}
 use Rattle.cfs_ckpt.specs.Selects.{Selects}
 use Rattle.cfs_names.specs.Behind.{AreBehind}
-use Rattle.cfs_meaning.specs.Drive.{Block, Drive, Op, Word, attempt, is_allowed, made, noted}
-use Rattle.cfs_meaning.specs.Drive.{on_block, refused}
+use Rattle.cfs_meaning.specs.Drive.{Block, Drive, Word, attempt, is_allowed, made, noted}
+use Rattle.cfs_meaning.specs.Drive.{refused}
 use Rattle.cfs_meaning.specs.NameSteps.{tree_of}
 use Rattle.cfs_meaning.specs.Steps.{size_word, tag_kept}
-use Rattle.cfs_meaning.specs.World.{Names, World, file_in, find_file}
+use Rattle.cfs_meaning.specs.World.{Names, World, file_in}
 use Rattle.cfs_meaning.specs.Inode.{blocks_ascending, clear_size, is_size_right, purge, untag}
 use Rattle.cfs_meaning.specs.Trees.{IsStored, IsTreeStored, front_in, records_in, tables_in}
 use Rattle.cfs_meaning.specs.Ways.{Way, when}

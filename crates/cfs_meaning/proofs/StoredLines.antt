@@ -13,7 +13,7 @@ use Rattle.cfs_script.specs.declared.form.Form.TheVariants as forms
 use Rattle.cfs_words.specs.declared.device.Device.{Device}
 use Rattle.cfs_words.specs.declared.seek.Seek.{Seek}
 use Rattle.cfs_requests.specs.Steps.{NameAnswer}
-use Rattle.cfs_meaning.specs.NameSteps.{Order, closing, tree_of}
+use Rattle.cfs_meaning.specs.NameSteps.{Order, closing}
 use Rattle.cfs_meaning.specs.World.{Descriptor, Down, Failed, Phase, Up, World, core_in}
 use Rattle.cfs_meaning.specs.World.{descriptor_in, file_in, queue_in, with_descriptor, with_file}
 use Rattle.cfs_meaning.specs.Inode.{Absent, Behind, Ready, Verdict, serve_verdict, verdict}
@@ -22,25 +22,25 @@ use Rattle.cfs_meaning.specs.Names.{ask, dying, free_record, log_step, purge_all
 use Rattle.cfs_meaning.specs.Files.{Defers, Helps, admit_write, append, at_position, clear_way}
 use Rattle.cfs_meaning.specs.Files.{close, collect, defers, fails, fails_first, faults, find_room}
 use Rattle.cfs_meaning.specs.Files.{ftruncate, has_no_power, help_lowest, help_some, helps_first}
-use Rattle.cfs_meaning.specs.Files.{in_the_way, is_behind, is_out_itself, list_queue, lseek}
+use Rattle.cfs_meaning.specs.Files.{in_the_way, is_behind, is_out_itself, lseek}
 use Rattle.cfs_meaning.specs.Files.{make_room, move_by, move_to, moved_by, opened, opened_to_read}
-use Rattle.cfs_meaning.specs.Files.{opened_to_write, post, pwrite, read_or_sync, room_or_full}
+use Rattle.cfs_meaning.specs.Files.{opened_to_write, pwrite, read_or_sync, room_or_full}
 use Rattle.cfs_meaning.specs.Files.{say_served, serve_helped, serve_posted, serves, skips}
 use Rattle.cfs_meaning.specs.Files.{stage_and_admit, works, works_on, write}
 use Rattle.cfs_meaning.specs.Workers.{Item, apply_line, chosen, dispatch_by, dispatch_line, do_item}
 use Rattle.cfs_meaning.specs.Workers.{drain, finish_line, once_more, pass_over, pass_over_all}
 use Rattle.cfs_meaning.specs.Workers.{say_turn, settle_line, skip_line, take_turn, there, trim_each}
-use Rattle.cfs_meaning.specs.Workers.{trim_line, turn, turn_line, work}
+use Rattle.cfs_meaning.specs.Workers.{trim_line, turn, work}
 use Rattle.cfs_meaning.specs.Play.{does, plan, steps_so, stopped, up, while_up}
 use Rattle.cfs_meaning.specs.Trees.{IsStored, IsTreeStored, LinesKeepStored, keeps_tree}
-use Rattle.cfs_meaning.specs.Ways.{Changes, Fault, Halt, Now, Repeats, Waits, Way, now, ◌>>=◌, ◌>>◌}
-use Rattle.cfs_meaning.proofs.Hoare.{Leaves, leave-changes, leave-give, leave-known, leave-look}
+use Rattle.cfs_meaning.specs.Ways.{Changes, Fault, Halt, Now, Waits, Way, now}
+use Rattle.cfs_meaning.proofs.Hoare.{leave-changes, leave-give, leave-known, leave-look}
 use Rattle.cfs_meaning.proofs.Hoare.{leave-then}
 use Rattle.cfs_meaning.proofs.ShownCloses.{closed-tree}
 use Rattle.cfs_meaning.proofs.ShownOpen.{leave-mends, leave-repeats, leave-shrugs}
 use Rattle.cfs_meaning.proofs.StoredKept.{KeepsStored, purge-stored, still-stored}
-use Rattle.cfs_meaning.proofs.StoredParts.{AreAside, block-aside, s-admit, s-apply, s-choose}
-use Rattle.cfs_meaning.proofs.StoredParts.{s-dispatch, s-drop, s-each, s-end, s-event, s-finish}
+use Rattle.cfs_meaning.proofs.StoredParts.{block-aside, s-admit, s-apply, s-choose}
+use Rattle.cfs_meaning.proofs.StoredParts.{s-dispatch, s-drop, s-each, s-end, s-finish}
 use Rattle.cfs_meaning.proofs.StoredParts.{s-give, s-job, s-known, s-look, s-read, s-refuse}
 use Rattle.cfs_meaning.proofs.StoredParts.{s-serve, s-settle, s-skip, s-steps, s-then, s-trim}
 use Rattle.cfs_meaning.proofs.StoredParts.{s-when, staged-aside}

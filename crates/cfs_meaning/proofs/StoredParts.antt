@@ -1,8 +1,8 @@
 -- Parts of lines on files leave the journal and the checkpoint as they stand for the tree.
-use Rattle.std.proofs.Common.{◌≡◌, ◌⊎◌, ℕ, ◌+◌, ◌-◌, ◌*◌, ◌<◌, ◌≤◌, Bool, true, false, not, Option, Some}
-use Rattle.std.proofs.Common.{None, List, [], ◌∷◌, ◌++◌, length, map, filter, take, replicate, refl, sym}
-use Rattle.std.proofs.Common.{ap, ◌∙◌, subst, if◌then◌else◌, arith}
-use Rattle.std.specs.Prelude.{Result, Ok, Err, get_or, nat_lt, reverse, unwrap_or}
+use Rattle.std.proofs.Common.{◌≡◌, ℕ, ◌-◌, ◌≤◌, Bool, true, false, Option, Some}
+use Rattle.std.proofs.Common.{None, List, [], ◌∷◌, ◌++◌, length, map, take, refl}
+use Rattle.std.proofs.Common.{ap, ◌∙◌, if◌then◌else◌, arith}
+use Rattle.std.specs.Prelude.{get_or, nat_lt, reverse, unwrap_or}
 use Rattle.std.specs.List.{enumerate_from, flat_map}
 use Rattle.std.specs.Option.{option_to_list}
 use Rattle.std.proofs.lemmas.List.{set-get_or, take-set-le}
@@ -25,21 +25,21 @@ use Rattle.cfs_slot.specs.Staging.{staged_payload}
 use Rattle.cfs_meaning.specs.Drive.{Block, Drive, Op, Word, attempt, is_allowed, made, noted}
 use Rattle.cfs_meaning.specs.Drive.{on_block, on_region, refused}
 use Rattle.cfs_meaning.specs.Steps.{part_of, slot, staged, staged_in, tails_staged}
-use Rattle.cfs_meaning.specs.World.{Descriptor, File, Held, World, block_of, core_in, devices_of}
+use Rattle.cfs_meaning.specs.World.{Descriptor, Held, World, block_of, core_in, devices_of}
 use Rattle.cfs_meaning.specs.World.{file_in, head_of, held_at}
 use Rattle.cfs_meaning.specs.Inode.{admit, admit_read, apply, back, back_unless, close_or_apply}
 use Rattle.cfs_meaning.specs.Inode.{dispatch, drop_read, event, finish, finish_with, flush_block}
 use Rattle.cfs_meaning.specs.Inode.{is_append}
 use Rattle.cfs_meaning.specs.Inode.{map_block, mark, next_step, open_gate, part_read, retire}
 use Rattle.cfs_meaning.specs.Inode.{run_job, serve, set_size, settle, settle_doubt, skip, tag}
-use Rattle.cfs_meaning.specs.Inode.{tag_with, take_block, trim, trim_at, try_to_close, write_block}
+use Rattle.cfs_meaning.specs.Inode.{take_block, trim, trim_at, try_to_close, write_block}
 use Rattle.cfs_meaning.specs.Trees.{IsStored, front_in}
-use Rattle.cfs_meaning.specs.Ways.{Changes, Halt, Mends, Now, Tries, Way, choose, each, end_with}
+use Rattle.cfs_meaning.specs.Ways.{Changes, Halt, Now, Tries, Way, choose, each, end_with}
 use Rattle.cfs_meaning.specs.Ways.{give, known, refuse_if, steps, unless_fault, when, ◌>>=◌}
-use Rattle.cfs_meaning.proofs.Hoare.{Leaves, leave-changes, leave-end, leave-event, leave-give}
-use Rattle.cfs_meaning.proofs.Hoare.{leave-known, leave-look, leave-refuse, leave-then}
+use Rattle.cfs_meaning.proofs.Hoare.{leave-changes, leave-end, leave-event, leave-give}
+use Rattle.cfs_meaning.proofs.Hoare.{leave-look, leave-then}
 use Rattle.cfs_meaning.proofs.Hoare.{leave-tries, leave-unless, leave-weaker}
-use Rattle.cfs_meaning.proofs.ShownOpen.{leave-each, leave-mends, leave-replicate}
+use Rattle.cfs_meaning.proofs.ShownOpen.{leave-each, leave-mends}
 use Rattle.cfs_meaning.proofs.StoredKept.{KeepsStored, still-stored}
 use Rattle.cfs_meaning.proofs.Total.{with_attempt}
 

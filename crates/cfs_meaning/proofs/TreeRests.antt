@@ -1,5 +1,5 @@
 -- Where the journal and the checkpoint stand for a tree, each image of them recovers it.
-use Rattle.std.proofs.Common.{◌≡◌, ℕ, List, [], ◌++◌, drop, take, sym, subst}
+use Rattle.std.proofs.Common.{ℕ, List, [], sym, subst}
 use Rattle.std.proofs.lemmas.List.{take-append-drop}
 use Rattle.cfs_dir.specs.Namespace.{Namespace}
 use Rattle.cfs_pmem.specs.AllMoments.{AreDistinct}
@@ -9,7 +9,7 @@ use Rattle.cfs_pmem.proofs.AllMomentLemmas.{all_at_end}
 use Rattle.cfs_names.specs.Recovered.{IsTreeOr, recovered}
 use Rattle.cfs_names.proofs.Recovering.{at_rest}
 use Rattle.cfs_meaning.specs.World.{World}
-use Rattle.cfs_meaning.specs.Trees.{IsTreeStored, front_in, records_in, tables_in}
+use Rattle.cfs_meaning.specs.Trees.{IsTreeStored, front_in}
 
 pub stored-recovers : (tree : Namespace) (world : World) → IsTreeStored tree world →
     (images : List (List ℕ)) → IsEachImage IsImage (front_in world.drive) images →

@@ -1,5 +1,5 @@
 -- Single steps of an admission.
-use Rattle.std.specs.Prelude.{◌≡◌, ◌<◌, ℕ, List, length, Result, false}
+use Rattle.std.specs.Prelude.{◌≡◌, ◌<◌, ℕ, length, Result, false}
 use Rattle.std.specs.List.{Contains}
 use Rattle.cfs_pmem.specs.Images.{words_of}
 use Rattle.cfs_meaning.specs.Drive.{region_at}

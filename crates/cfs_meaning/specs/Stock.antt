@@ -4,7 +4,7 @@ use Rattle.cfs_script.specs.declared.form.Form.TheVariants as forms
 use Rattle.cfs_script.specs.declared.line.Line.{Line}
 use Rattle.cfs_print.specs.declared.out_line.OutLine.{OutLine}
 use Rattle.cfs_meaning.specs.Drive.{Drive, content_at}
-use Rattle.cfs_meaning.specs.World.{Caller, File, Up, World}
+use Rattle.cfs_meaning.specs.World.{Caller, Up, World}
 use Rattle.cfs_meaning.specs.Mounting.{mounted_world}
 use Rattle.cfs_meaning.specs.Devices.{IsShown, NoneHasEnded, OfEachFile}
 use Rattle.cfs_meaning.specs.Laws.{AreReached, HaveNoMount}
