@@ -1,16 +1,15 @@
 -- The words of a new store pass every check.
-use Rattle.std.proofs.Common.{ℕ, zero, suc, ◌+◌, ◌*◌, ◌-◌, ◌/◌, ◌<◌, ◌≤◌, ◌≡◌, ◌∙◌, ◌==◌, Bool, true}
+use Rattle.std.proofs.Common.{ℕ, zero, suc, ◌+◌, ◌*◌, ◌-◌, ◌/◌, ◌<◌, ◌≤◌, ◌≡◌, ◌∙◌, ◌==◌, Bool}
 use Rattle.std.proofs.Common.{false, List, [], ◌∷◌, ◌++◌, length, map, get_or, take, drop, sym, ap}
 use Rattle.std.proofs.Common.{refl, arith, not, ◌&&◌, ◌%◌, Contains, subst}
-use Rattle.std.specs.Prelude.{None, Some, replicate, nat_lt, if◌then◌else◌}
+use Rattle.std.specs.Prelude.{None, replicate, if◌then◌else◌}
 use Rattle.std.specs.List.{flat_map, range_with_len}
 use Rattle.std.proofs.Math.ListN as lists
 use Rattle.std.proofs.lemmas.Bool.Decides.{nat_tests}
-use Rattle.std.proofs.lemmas.List.{length-map, length-replicate}
+use Rattle.std.proofs.lemmas.List.{length-replicate}
 use Rattle.std.proofs.lemmas.List.FromFn.{get_or-map-range_with_len, take-map-range_with_len}
 use Rattle.cfs_pmem.specs.Images.{Seen, WordStep, words_of}
 use Rattle.cfs_block.specs.BlockImages.{BlockStep, Content, content_of}
-use Rattle.cfs_dir.specs.declared.node.Node.{Node}
 use Rattle.cfs_dir.specs.Namespace.{Namespace}
 use Rattle.cfs_dir.specs.Tree.{leads_to_root, root_of}
 use Rattle.cfs_dir.specs.Words.{nodes_in, table_in}
@@ -24,7 +23,7 @@ use Rattle.cfs_journal.specs.Standing.{walk}
 use Rattle.cfs_plan.specs.Files.{files_of}
 use Rattle.cfs_plan.specs.Readings.{HasNothingPast}
 use Rattle.cfs_replay.specs.Plans.{disk_in}
-use Rattle.cfs_slot.specs.Words.{gate_of, ino_of}
+use Rattle.cfs_slot.specs.Words.{ino_of}
 use Rattle.cfs_store_words.specs.Held.{selector_held, words_held}
 use Rattle.cfs_store_words.specs.Rows.{first_word, row_at, rows_from, tag_in}
 use Rattle.cfs_store_words.proofs.Stores.{words-are}
@@ -32,16 +31,16 @@ use Rattle.cfs_survey.proofs.FirstFaults.{behind_sound}
 use Rattle.cfs_survey.specs.Fields.{root_checks}
 use Rattle.cfs_survey.specs.Faults.{checks_from}
 use Rattle.cfs_survey.specs.Journals.{changes_checks, gates_checks}
-use Rattle.cfs_survey.specs.Journals.{last_reached, reached, table_places}
+use Rattle.cfs_survey.specs.Journals.{reached, table_places}
 use Rattle.cfs_survey.specs.Places.{places_checks}
 use Rattle.cfs_survey.specs.Sizes.{sizes_checks}
 use Rattle.cfs_survey.specs.Slots.{is_entry, open_checks, slot_checks, slots_checks}
 use Rattle.cfs_survey.specs.Slots as slots
-use Rattle.cfs_survey.specs.Surveys.{AreWhole, Words, is_mapped, namespace_checks}
+use Rattle.cfs_survey.specs.Surveys.{Words, is_mapped, namespace_checks}
 use Rattle.cfs_survey.specs.Surveys.{recovered_tree, survey_checks}
 use Rattle.cfs_survey.specs.Tables.{next_checks, records_checks, row_at as row_offset}
 use Rattle.cfs_survey.specs.Tags.{is_file, own_checks, tag_checks, tags_checks}
-use Rattle.cfs_clean.specs.Clean.{IsClean, IsCleanStore, IsTreeOf}
+use Rattle.cfs_clean.specs.Clean.{IsClean, IsTreeOf}
 use Rattle.cfs_clean.specs.Laws.{HoldNew, NewStoresAreClean}
 
 -- ---- lists

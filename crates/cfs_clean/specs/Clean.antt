@@ -1,5 +1,5 @@
 -- Clean stores.
-use Rattle.std.specs.Prelude.{ℕ, ◌≡◌, List, None}
+use Rattle.std.specs.Prelude.{◌≡◌, List, None}
 use Rattle.cfs_pmem.specs.Images.{Seen, WordStep}
 use Rattle.cfs_block.specs.BlockImages.{BlockStep}
 use Rattle.cfs_dir.specs.Namespace.{Namespace}
