@@ -10,7 +10,7 @@ ghost use Rattle.cfs_pmem.specs.AllMoments.{AreDistinct};
 ghost use Rattle.cfs_recover.specs.Begins.{Stands, both};
 ghost use Rattle.cfs_recover.specs.Words.{lengths_of};
 ghost use Rattle.cfs_replay.specs.Plans.{IsBroughtHome};
-ghost use Rattle.cfs_restore.specs.Failures.{LeavesUnlessFailed, RestoreCaused};
+ghost use Rattle.cfs_restore.specs.Failures.{LeavesUnlessFailed, NamesDamage, RestoreCaused};
 ghost use Rattle.cfs_store_words.specs.Causes.{TellsCause};
 ghost use Rattle.cfs_store_words.specs.Held.{words_held};
 ghost use Rattle.cfs_survey.specs.Surveys.{AreWhole, survey_checks, words_of};
@@ -54,6 +54,8 @@ pub(crate) fn bring_home<R: Region, B: Block, P: Power>(
         Stands (files_in survey.now) start first (map R.seen regions.old)
         (map B.seen blocks.old) → IsBroughtHome (files_in survey.now) start first
         (map R.seen regions.new) (map B.seen blocks.new)) }
+    ensures damaged { IfErr result (NamesDamage
+        (survey_checks (words_held (map R.seen regions.old) (map B.seen blocks.old)))) }
     ensures leaves { IfErr result (LeavesUnlessFailed
         (both (map R.seen regions.old) (map B.seen blocks.old))
         (both (map R.seen regions.new) (map B.seen blocks.new))) }
