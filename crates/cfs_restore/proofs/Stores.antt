@@ -1,15 +1,20 @@
 -- What the devices of a store have room for, and what words they hold.
-use Rattle.std.proofs.Common.{ℕ, ◌+◌, ◌<◌, ◌≡◌, ◌∙◌, List, [], length, map, get_or, take, drop}
-use Rattle.std.proofs.Common.{refl, sym, ap, subst, arith}
+use Rattle.std.proofs.Common.{ℕ, ◌+◌, ◌<◌, ◌≡◌, ◌∙◌, List, [], ◌∷◌, ◌++◌, length, map, get_or}
+use Rattle.std.proofs.Common.{take, drop, refl, sym, ap, subst, arith}
+use Rattle.std.specs.List.{range_with_len}
+use Rattle.std.proofs.Math.Seq.{drop-append_seam, take-append_seam}
 use Rattle.std.proofs.Math.ListN as lists
 use Rattle.std.proofs.lemmas.Bool.Decides.{nat_tests}
-use Rattle.std.proofs.lemmas.List.{get_or-drop, get_or-take}
-use Rattle.cfs_pmem.specs.Images.{Seen, WordStep, words_of}
+use Rattle.std.proofs.lemmas.List.{get_or-drop, get_or-take, length-map}
+use Rattle.cfs_pmem.specs.Images.{Seen, WordStep, devices_of, words_of}
+use Rattle.cfs_pmem.specs.Objects.{all_devices}
 use Rattle.cfs_block.specs.BlockImages.{BlockStep}
+use Rattle.cfs_block.specs.Devices.{numbers_of}
 use Rattle.cfs_image.specs.Layout.{queues_of, region_words}
-use Rattle.cfs_image.specs.Store.{IsStore}
+use Rattle.cfs_image.specs.Store.{IsSized, IsStore}
 use Rattle.cfs_plan.specs.Readings.{AreReadOf}
-use Rattle.cfs_recover.specs.Words.{HaveFirstWords}
+use Rattle.cfs_recover.specs.Begins.{both}
+use Rattle.cfs_recover.specs.Words.{HaveFirstWords, lengths_of}
 use Rattle.cfs_replay.specs.Reading.{AreSlots, words_at}
 use Rattle.cfs_store_words.specs.Held.{words_held}
 use Rattle.cfs_store_words.specs.Rows.{first_word, rows_from}
@@ -50,3 +55,70 @@ module _ {regions : List (Seen WordStep)} {blocks : List (Seen BlockStep)} {numb
     slots = refl;
     tags = refl;
   }
+
+-- ---- a store stays one
+
+module _ {X : Type 0} (xs ys zs ws : List X) (many : length xs ≡ length zs)
+    (same : xs ++ ys ≡ zs ++ ws) where
+  same-fronts : xs ≡ zs
+  same-fronts =
+      sym (take-append_seam xs ys)
+      ∙ (ap (take (length xs)) same
+      ∙ (ap (λ (n : ℕ). take n (zs ++ ws)) many ∙ take-append_seam zs ws))
+
+  same-backs : ys ≡ ws
+  same-backs =
+      sym (drop-append_seam xs ys)
+      ∙ (ap (drop (length xs)) same
+      ∙ (ap (λ (n : ℕ). drop n (zs ++ ws)) many ∙ drop-append_seam zs ws))
+
+own-device : {Form : Type 0} (seens : List (Seen Form)) →
+    map (λ (ns : List ℕ). get_or ns 0 0) (all_devices seens)
+    ≡ map (λ (seen : Seen Form). seen.device) seens
+own-device [] = refl
+own-device (seen ∷ seens) = ap (λ (ns : List ℕ). seen.device ∷ ns) (own-device seens)
+
+same-own : {Form : Type 0} (olds news : List (Seen Form)) → all_devices news ≡ all_devices olds →
+    map (λ (seen : Seen Form). seen.device) news ≡ map (λ (seen : Seen Form). seen.device) olds
+same-own olds news same =
+    sym (own-device news)
+    ∙ (ap (map (λ (ns : List ℕ). get_or ns 0 0)) same ∙ own-device olds)
+
+same-many : {Form : Type 0} (olds news : List (Seen Form)) → all_devices news ≡ all_devices olds →
+    length news ≡ length olds
+same-many olds news same =
+    sym (length-map news devices_of)
+    ∙ (ap (λ (ns : List (List ℕ)). length ns) same ∙ length-map olds devices_of)
+
+-- where its devices are the same, and each has as many words as before
+pub store-still : {olds news : List (Seen WordStep)} {blocks_old blocks_new : List (Seen BlockStep)}
+    {numbers_old numbers_new : List ℕ} → IsStore olds blocks_old numbers_old →
+    lengths_of news ≡ lengths_of olds →
+    numbers_of (both news blocks_new) ≡ numbers_of (both olds blocks_old) →
+    numbers_new ≡ numbers_old → IsStore news blocks_new numbers_new
+store-still {olds} {news} {blocks_old} {blocks_new} {numbers_old} {numbers_new} store lengths
+    devices numbers =
+    let many : length news ≡ length olds =
+    sym (length-map news (λ (region : Seen WordStep). length (words_of region)))
+    ∙ (ap (λ (ns : List ℕ). length ns) lengths
+    ∙ length-map olds (λ (region : Seen WordStep). length (words_of region))) in
+    let listed : length (all_devices news) ≡ length (all_devices olds) =
+    length-map news devices_of ∙ (many ∙ sym (length-map olds devices_of)) in
+    let own = same-fronts (all_devices news) (all_devices blocks_new) (all_devices olds)
+    (all_devices blocks_old) listed devices in
+    let own_blocks = same-backs (all_devices news) (all_devices blocks_new) (all_devices olds)
+    (all_devices blocks_old) listed devices in
+    let some : length blocks_new ≡ length blocks_old =
+    same-many blocks_old blocks_new own_blocks in
+    record {
+      sized = subst (λ (n : ℕ). IsSized n (length blocks_new)) (sym many)
+          (subst (IsSized (length olds)) (sym some) store.sized);
+      devices = same-own olds news own ∙ (store.devices ∙ ap (range_with_len 0) (sym many));
+      sizes = lengths ∙ (store.sizes
+          ∙ ap (λ (n : ℕ). map region_words (range_with_len 0 n)) (sym many));
+      block_devices = same-own blocks_old blocks_new own_blocks
+          ∙ (store.block_devices
+          ∙ (ap (λ (n : ℕ). range_with_len n (length blocks_old)) (sym many)
+          ∙ ap (range_with_len (length news)) (sym some)));
+      own_numbers = numbers ∙ (store.own_numbers ∙ ap (range_with_len 0) (sym some));
+    }

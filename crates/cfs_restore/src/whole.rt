@@ -68,6 +68,8 @@ pub fn restore<R: Region, B: Block, P: Power>(
     ensures leaves { IfErr result (LeavesUnlessFailed
         (both (map R.seen regions.old) (map B.seen blocks.old))
         (both (map R.seen regions.new) (map B.seen blocks.new))) }
+    ensures store { IsStore (map R.seen regions.new) (map B.seen blocks.new)
+        (map B.number blocks.new) }
     ensures lengths { lengths_of (map R.seen regions.new) ≡ lengths_of (map R.seen regions.old) }
     ensures devices { numbers_of (both (map R.seen regions.new) (map B.seen blocks.new))
         ≡ numbers_of (both (map R.seen regions.old) (map B.seen blocks.old)) }
