@@ -13,7 +13,7 @@ use Rattle.cfs_plan.specs.Readings.{AreReadOf, IsSurveyOf, files_in}
 use Rattle.cfs_recover.specs.Begins.{Stands, both}
 use Rattle.cfs_recover.specs.Held.{AreFull}
 use Rattle.cfs_replay.specs.declared.plan.Plan.{Plan}
-use Rattle.cfs_replay.specs.Plans.{IsPlanFor, disk_in}
+use Rattle.cfs_replay.specs.Plans.{IsBroughtHome, IsPlanFor, disk_in}
 use Rattle.cfs_replay.proofs.Plans.{holds-now}
 use Rattle.cfs_store_words.specs.Held.{words_held}
 use Rattle.cfs_store_words.specs.Leaves.{LeavesStore}
@@ -52,3 +52,35 @@ pub reads-then : (files : List File) (start first : Disk) {asked_old asked_mid a
 reads-then files start first olds mids news blocks_old blocks_mid blocks_new stands leaves later =
     let still = still-stands files start first _ _ olds mids blocks_old blocks_mid stands leaves in
     all_after still.1 (later still.0)
+
+-- so where the calls behind speak of the files that a survey told
+pub home-then : (files told : List File) (start first : Disk)
+    {asked_old asked_mid asked_new : List Asked} (olds mids news : List (Seen WordStep))
+    (blocks_old blocks_mid blocks_new : List (Seen BlockStep)) → told ≡ files →
+    Stands files start first olds blocks_old →
+    LeavesStore asked_old (both olds blocks_old) asked_mid (both mids blocks_mid) →
+    ((start first : Disk) → Stands told start first mids blocks_mid →
+    MountMoments told start asked_mid (both mids blocks_mid) asked_new (both news blocks_new)) →
+    MountMoments files start asked_old (both olds blocks_old) asked_new (both news blocks_new)
+home-then files told start first {asked_old} {asked_mid} {asked_new} olds mids news blocks_old
+    blocks_mid blocks_new same stands leaves later =
+    reads-then files start first olds mids news blocks_old blocks_mid blocks_new stands leaves
+    (λ still. subst (λ (these : List File). MountMoments these start asked_mid
+    (both mids blocks_mid) asked_new (both news blocks_new)) same
+    (later start first (subst (λ (these : List File). Stands these start first mids blocks_mid)
+    (sym same) still)))
+
+-- and what stands at the end
+pub home-behind : (files told : List File) (start first : Disk) {asked_old asked_mid : List Asked}
+    (olds mids news : List (Seen WordStep)) (blocks_old blocks_mid blocks_new : List (Seen BlockStep))
+    → told ≡ files → Stands files start first olds blocks_old →
+    LeavesStore asked_old (both olds blocks_old) asked_mid (both mids blocks_mid) →
+    ((start first : Disk) → Stands told start first mids blocks_mid →
+    IsBroughtHome told start first news blocks_new) →
+    IsBroughtHome files start first news blocks_new
+home-behind files told start first olds mids news blocks_old blocks_mid blocks_new same stands
+    leaves later =
+    let still = still-stands files start first _ _ olds mids blocks_old blocks_mid stands leaves in
+    subst (λ (these : List File). IsBroughtHome these start first news blocks_new) same
+    (later start first (subst (λ (these : List File). Stands these start first mids blocks_mid)
+    (sym same) still.0))

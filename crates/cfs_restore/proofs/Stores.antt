@@ -9,7 +9,8 @@ use Rattle.std.proofs.lemmas.List.{get_or-drop, get_or-take, length-map}
 use Rattle.cfs_pmem.specs.Images.{Seen, WordStep, devices_of, words_of}
 use Rattle.cfs_pmem.specs.Objects.{all_devices}
 use Rattle.cfs_block.specs.BlockImages.{BlockStep}
-use Rattle.cfs_block.specs.Devices.{numbers_of}
+use Rattle.cfs_pmem.specs.declared.trace.Asked.{Asked}
+use Rattle.cfs_block.specs.Devices.{Devices, numbers_of}
 use Rattle.cfs_image.specs.Layout.{queues_of, region_words}
 use Rattle.cfs_image.specs.Store.{IsSized, IsStore}
 use Rattle.cfs_plan.specs.Readings.{AreReadOf}
@@ -17,6 +18,7 @@ use Rattle.cfs_recover.specs.Begins.{both}
 use Rattle.cfs_recover.specs.Words.{HaveFirstWords, lengths_of}
 use Rattle.cfs_replay.specs.Reading.{AreSlots, words_at}
 use Rattle.cfs_store_words.specs.Held.{words_held}
+use Rattle.cfs_store_words.specs.Leaves.{LeavesStore}
 use Rattle.cfs_store_words.specs.Rows.{first_word, rows_from}
 use Rattle.cfs_store_words.proofs.Stores.{fewest, row-len, slot-len}
 use Rattle.cfs_survey.specs.Surveys.{Words}
@@ -122,3 +124,16 @@ store-still {olds} {news} {blocks_old} {blocks_new} {numbers_old} {numbers_new} 
           ∙ ap (range_with_len (length news)) (sym some)));
       own_numbers = numbers ∙ (store.own_numbers ∙ ap (range_with_len 0) (sym some));
     }
+
+-- behind calls that only read, and others
+pub store-after : {asked_old asked_mid : List Asked} {olds mids news : List (Seen WordStep)}
+    {blocks_old blocks_mid blocks_new : List (Seen BlockStep)}
+    {numbers_old numbers_mid numbers_new : List ℕ} → IsStore olds blocks_old numbers_old →
+    LeavesStore asked_old (both olds blocks_old) asked_mid (both mids blocks_mid) →
+    numbers_mid ≡ numbers_old → lengths_of news ≡ lengths_of mids →
+    numbers_of (both news blocks_new) ≡ numbers_of (both mids blocks_mid) →
+    numbers_new ≡ numbers_mid → IsStore news blocks_new numbers_new
+store-after store leaves mid lengths devices numbers =
+    store-still store
+    (lengths ∙ ap (λ (these : Devices). lengths_of these.regions) leaves.same)
+    (devices ∙ ap numbers_of leaves.same) (numbers ∙ mid)
