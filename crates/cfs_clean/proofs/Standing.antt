@@ -21,6 +21,7 @@ use Rattle.cfs_plan.proofs.Told.{AreSound}
 use Rattle.cfs_plan.proofs.TreeFiles.{are-files}
 use Rattle.cfs_replay.specs.Plans.{disk_in}
 use Rattle.cfs_replay.specs.Reading.{words_at}
+use Rattle.cfs_restore.proofs.Stores.{are-read}
 use Rattle.cfs_store_words.specs.Held.{words_held}
 use Rattle.cfs_store_words.specs.Rows.{first_word, rows_from}
 use Rattle.cfs_store_words.proofs.Distinct.{store-distinct}
@@ -55,32 +56,7 @@ contents-alone (seen ∷ rest) sure (image ∷ images) each =
     (All-head IsSureBlock seen rest sure image each.0)
     (contents-alone rest (All-tail IsSureBlock seen rest sure) images each.1)
 
--- ---- what a survey reads
-
-size-read : (regions : List (Seen WordStep)) (node : ℕ) → 323 ≤ length regions → node < 256 →
-    get_or (words_at regions (67 + node)) 0 0
-    ≡ get_or (map first_word (rows_from 67 256 regions)) node 0
-size-read regions node many less =
-    let rows : List (List ℕ) = map words_of regions in
-    let long : length (take 256 (drop 67 rows)) ≡ 256 =
-    length-take-le 256 (drop 67 rows)
-    (omega (arith, many, length-drop 67 rows, length-map regions words_of)) in
-    sym (get_or-map first_word (take 256 (drop 67 rows)) node [] 0 (omega (arith, less, long))
-    ∙ ap first_word (get_or-take 256 (drop 67 rows) node [] less
-    ∙ (get_or-drop 67 rows node []
-    ∙ lists.get_or-map words_of regions (67 + node)
-    record { device = 0; also = []; history = [] })))
-
-reads-held : (regions : List (Seen WordStep)) (blocks : List (Seen BlockStep)) (numbers : List ℕ) →
-    IsStore regions blocks numbers → AreReadOf (words_held regions blocks) regions blocks
-reads-held regions blocks numbers store = record {
-  queues = queues_of (length regions);
-  many = store.sized.whole_queues;
-  sizes = λ node less.
-      size-read regions node (omega (arith, store.sized.whole_queues)) less;
-  slots = refl;
-  tags = refl;
-}
+-- ---- all of it
 
 sound-words : (words : Words) → damage_of (survey_checks words) ≡ None →
     AreSound words (recovered_tree words).nodes
@@ -96,8 +72,6 @@ sound-words words sound =
     let third = sound_parts tags slots second.1 in
     record { sizes = second.0; tags = third.0; slots = third.1 }
 
--- ---- all of it
-
 pub clean-stands : CleanStoresStand
 clean-stands regions blocks numbers sure clean =
     let words : Words = words_held regions blocks in
@@ -106,7 +80,7 @@ clean-stands regions blocks numbers sure clean =
     let reads : Reads words nodes next regions blocks = record {
       tree = clean.tree;
       sound = sound-words words clean.sound;
-      read = reads-held regions blocks numbers sure.store;
+      read = are-read sure.store words refl;
     } in
     record {
       are = are-files nodes next clean.tree;

@@ -4,17 +4,13 @@ use Rattle.cfs_pmem.specs.Images.{Seen, WordStep}
 use Rattle.cfs_block.specs.BlockImages.{BlockStep}
 use Rattle.cfs_dir.specs.Namespace.{Namespace}
 use Rattle.cfs_dir.specs.Tree.{IsTree}
-use Rattle.cfs_home.specs.Disks.{Disk, File}
+use Rattle.cfs_home.specs.Disks.{Disk}
 use Rattle.cfs_image.specs.Checks.{damage_of}
 use Rattle.cfs_plan.specs.Files.{files_of}
 use Rattle.cfs_plan.specs.Readings.{HasNothingPast}
 use Rattle.cfs_replay.specs.Plans.{disk_in}
 use Rattle.cfs_store_words.specs.Held.{words_held}
 use Rattle.cfs_survey.specs.Surveys.{AreWhole, Words, recovered_tree, survey_checks}
-
--- the files of the tree that these words tell
-abbrev pub files_told : Words → List File
-files_told words = files_of (recovered_tree words).nodes
 
 abbrev pub IsTreeOf : Namespace → Type 0
 IsTreeOf namespace = IsTree namespace.nodes namespace.next
@@ -25,7 +21,7 @@ pub record IsClean (words : Words) (disk : Disk) : Type 0 where
   pub whole : AreWhole words
   pub sound : damage_of (survey_checks words) ≡ None
   pub tree : IsTreeOf (recovered_tree words)
-  pub past : HasNothingPast (files_told words) disk
+  pub past : HasNothingPast (files_of (recovered_tree words).nodes) disk
 
 -- so of the words and the bytes that devices hold now
 abbrev pub IsCleanStore : List (Seen WordStep) → List (Seen BlockStep) → Type 0

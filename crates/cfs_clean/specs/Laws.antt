@@ -9,8 +9,8 @@ use Rattle.cfs_image.specs.Layout.{region_count}
 use Rattle.cfs_image.specs.Store.{IsStore}
 use Rattle.cfs_recover.specs.Begins.{Stands}
 use Rattle.cfs_replay.specs.Plans.{disk_in}
-use Rattle.cfs_store_words.specs.Held.{words_held}
-use Rattle.cfs_clean.specs.Clean.{IsCleanStore, files_told}
+use Rattle.cfs_restore.specs.Held.{files_held}
+use Rattle.cfs_clean.specs.Clean.{IsCleanStore}
 
 -- the devices hold what those of a new store do, of so many blocks and queues
 pub record HoldNew (count queues : ℕ) (regions : List (Seen WordStep))
@@ -37,7 +37,7 @@ pub record IsSureStore (regions : List (Seen WordStep)) (blocks : List (Seen Blo
 -- a mount finds the files of the disk that is read now, on this disk and no other
 abbrev pub StandsNow : List (Seen WordStep) → List (Seen BlockStep) → Disk → Type 0
 StandsNow regions blocks now =
-    Stands (files_told (words_held regions blocks)) now now regions blocks
+    Stands (files_held regions blocks) now now regions blocks
 
 abbrev pub CleanStoresStand : Type 0
 CleanStoresStand =
