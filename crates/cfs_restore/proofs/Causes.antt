@@ -14,7 +14,7 @@ use Rattle.cfs_store_words.specs.Failures.{SurveyCaused}
 use Rattle.cfs_store_words.specs.Failures.{NamesDamage as SurveyNames}
 use Rattle.cfs_store_words.proofs.Calls.{none-fell}
 use Rattle.cfs_restore.specs.declared.restore_failed.RestoreFailed.{RestoreFailed}
-use Rattle.cfs_restore.specs.declared.restore_failed.RestoreFailed.TheVariants.{Failed, Damaged}
+use Rattle.cfs_restore.specs.declared.restore_failed.RestoreFailed.TheVariants.{Failed}
 use Rattle.cfs_restore.specs.declared.restore_failed.RestoreFailed.TheVariants.{NoMemory}
 use Rattle.cfs_restore.specs.Failures.{LeavesUnlessFailed, NamesDamage, RestoreCaused, of_survey}
 

@@ -1,9 +1,6 @@
 -- A store that is only read.
-use Rattle.std.proofs.Common.{List, sym, subst}
-use Rattle.cfs_pmem.specs.Images.{IsImage}
-use Rattle.cfs_pmem.specs.Objects.{IsEachImage}
+use Rattle.std.proofs.Common.{sym, subst}
 use Rattle.cfs_pmem.proofs.AllMomentLemmas.{all_weaker}
-use Rattle.cfs_block.specs.BlockImages.{IsBlockImage}
 use Rattle.cfs_block.specs.Devices.{AreImagesOf, DeviceImages, Devices}
 use Rattle.cfs_home.specs.Calls.{disk_of}
 use Rattle.cfs_home.specs.Disks.{AllStay}

@@ -4,7 +4,6 @@ use Rattle.cfs_plan.specs.Readings.{files_in}
 use Rattle.cfs_restore.proofs.Moments.{files-told, home-behind, home-then}
 use Rattle.cfs_restore.proofs.Still.{still-stands}
 use Rattle.cfs_restore.proofs.Stores.{store-after}
-use Rattle.cfs_survey.specs.Surveys.{words_of}
 use Rattle.cfs_restore.proofs.whole.restore.Goals as goal
 
 pub returns-in_err-words-clause-moments : goal.returns-in_err-words-clause-moments
