@@ -1,4 +1,5 @@
 pub mod Distinct
 pub mod Fronts
+pub mod Splits
 pub mod Standings
 pub mod Walking

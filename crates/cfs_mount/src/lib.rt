@@ -2,6 +2,7 @@
 //! after a crash, and of what a survey found on them.
 #![tactic(auto)]
 
+mod queues;
 mod tree;
 
 pub use tree::mounted_tree;
