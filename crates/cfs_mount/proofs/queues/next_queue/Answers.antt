@@ -1,9 +1,9 @@
-use Rattle.std.proofs.Common.{◌≡◌, ◌∙◌, ◌∷◌, ◌++◌, ◌+◌, ◌<◌, ◌≤◌, ℕ, [], List, ap, arith, drop, length}
+use Rattle.std.proofs.Common.{◌≡◌, ◌∙◌, ◌∷◌, ◌++◌, ◌+◌, ◌<◌, ℕ, [], List, ap, arith, drop, length}
 use Rattle.std.proofs.Common.{map, sym, take}
 use Rattle.std.proofs.lemmas.List.{length-map, length-take-le, map-append}
 use Rattle.std.specs.Vec.Iter.{into_iter_items}
 use Rattle.cfs_pmem.specs.Images.{MemoryRegion, Seen, WordStep}
-use Rattle.cfs_queue.specs.Queue.{devices_of, first_of}
+use Rattle.cfs_queue.specs.Queue.{first_of}
 use Rattle.cfs_slot.specs.Regions.{of_slots}
 use Rattle.cfs_vec.specs.Items.{items_of}
 use Rattle.cfs_mount.specs.Queues.{IsFreeSlot}
