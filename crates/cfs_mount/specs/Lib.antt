@@ -1,3 +1,4 @@
 pub mod Front
+pub mod Names
 pub mod Queues
 pub mod Words

@@ -2,7 +2,9 @@
 //! after a crash, and of what a survey found on them.
 #![tactic(auto)]
 
+mod names;
 mod queues;
 mod tree;
 
+pub use names::mounted_names;
 pub use tree::mounted_tree;
