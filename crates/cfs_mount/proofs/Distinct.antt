@@ -1,5 +1,5 @@
 -- Devices that are distinct, in two parts.
-use Rattle.std.proofs.Common.{ℕ, List, [], ◌∷◌, ◌++◌, map, subst}
+use Rattle.std.proofs.Common.{ℕ, List, [], ◌∷◌, ◌++◌, subst}
 use Rattle.std.proofs.lemmas.List.{map-append}
 use Rattle.cfs_pmem.specs.AllMoments.{AreDistinct, IsApartFrom}
 use Rattle.cfs_pmem.specs.Images.{Seen, WordStep, devices_of}

@@ -38,11 +38,10 @@ pub whole_queues : {X : Type 0} (slots : List X) (count : ℕ) →
 whole_queues {X} slots count number queue there =
     let is : queue ≡ free_queue_at slots (0 + number) =
     home_is slots count 0 number queue there in
-    let same : 0 + number ≡ number = omega arith in
-    (
+    let same : 0 + number ≡ number = omega arith in (
       ap (λ (q : Slots X). q.number) is ∙ same,
-      ap (λ (q : Slots X). out_slots q) is 
-      ∙ none_out 0 (take 16 (drop (16 * (0 + number)) slots)),
+      ap (λ (q : Slots X). out_slots q) is
+          ∙ none_out 0 (take 16 (drop (16 * (0 + number)) slots)),
     )
 
 pub count_is : {X : Type 0} (slots : List X) (count : ℕ) (queues : List (Slots X)) →

@@ -1,14 +1,10 @@
-use Rattle.std.proofs.Common.{◌≡◌, ◌∙◌, ◌≤◌, ℕ, List, None, Some, ap, arith, length, map, refl}
+use Rattle.std.proofs.Common.{◌≡◌, ◌∙◌, List, Some, ap, arith, length, map}
 use Rattle.std.proofs.Common.{rules, subst, sym, vec_len}
-use Rattle.std.specs.Prelude.{replicate}
-use Rattle.cfs_dir.specs.Namespace.{Namespace}
 use Rattle.cfs_kernel.specs.Queues.{AreWhole}
 use Rattle.cfs_kernel.specs.States.{Kernel, kernel_of}
 use Rattle.cfs_names.specs.StoredTrees.{tree_of}
 use Rattle.cfs_pmem.specs.Images.{MemoryRegion}
 use Rattle.cfs_queue.specs.Queue.{Slots}
-use Rattle.cfs_mount.specs.Names.{mounted_kernel}
-use Rattle.cfs_mount.specs.Queues.{free_queue_at, free_queues}
 use Rattle.cfs_mount.proofs.Homes.{count_is, mounted_is, unused_without, whole_queues}
 use Rattle.cfs_mount.proofs.names.mounted_names.Goals as goal
 
@@ -16,13 +12,12 @@ pub new-requires : goal.new-requires
 new-requires c =
     let size : vec_len c.in_ok-home.home ≡ length c.in_ok-home.home.items = search rules in
     let count : length c.in_ok-home.home.items ≡ c.args.queues =
-    count_is c.args.slots.items c.args.queues c.in_ok-home.home.items c.in_ok-home.ensures in
-    (
+    count_is c.args.slots.items c.args.queues c.in_ok-home.home.items c.in_ok-home.ensures in (
       omega arith,
       (
         omega (arith, size, count, c.requires.most),
         subst (λ (queues : List (Slots MemoryRegion)). AreWhole (map (λ queue. Some queue) queues))
-        (sym c.in_ok-home.ensures) (whole_queues c.args.slots.items c.args.queues),
+            (sym c.in_ok-home.ensures) (whole_queues c.args.slots.items c.args.queues),
       ),
     )
 

@@ -30,13 +30,16 @@ new-requires-clause-closed c = (next c).closed
 
 pub push-requires : goal.push-requires
 push-requires c =
-    let slots : List MemoryRegion = into_iter_items c.args.slots.now in
-    (
+    let slots : List MemoryRegion = into_iter_items c.args.slots.now in (
       omega arith,
-      omega (arith, c.loop-test.true, c.requires.enough,
-          length-map (items_of c.loop.queue) (λ s. s.region),
-          ap (λ made. length made) c.loop.invariant.made,
-          length-take-le c.loop.counter slots (omega (arith, c.loop-test.true, c.requires.enough))),
+      omega (
+        arith,
+        c.loop-test.true,
+        c.requires.enough,
+        length-map (items_of c.loop.queue) (λ s. s.region),
+        ap (λ made. length made) c.loop.invariant.made,
+        length-take-le c.loop.counter slots (omega (arith, c.loop-test.true, c.requires.enough)),
+      ),
     )
 
 pub loop-preserved : goal.loop-preserved
@@ -63,12 +66,11 @@ new-requires-2 c =
     let sixteen : c.loop.counter ≡ 16 =
     omega (arith, c.loop-test.false, c.loop.auto.counter-end) in
     let made : of_slots c.loop.queue ≡ take 16 slots =
-    c.loop.invariant.made ∙ ap (λ n. take n slots) sixteen in
-    (
+    c.loop.invariant.made ∙ ap (λ n. take n slots) sixteen in (
       omega arith,
       (
         omega arith,
         ap (λ rs. map (λ (r : MemoryRegion). r.seen.device) rs) made
-        ∙ first_devices see 16 (first_of c.args.number) slots c.requires.enough c.requires.free,
+            ∙ first_devices see 16 (first_of c.args.number) slots c.requires.enough c.requires.free,
       ),
     )
