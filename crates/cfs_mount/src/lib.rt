@@ -4,7 +4,9 @@
 
 mod names;
 mod queues;
+mod regions;
 mod tree;
 
 pub use names::mounted_names;
+pub use regions::{StoreRegions, split_regions};
 pub use tree::mounted_tree;
