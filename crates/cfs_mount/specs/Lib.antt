@@ -1,4 +1,5 @@
 pub mod Front
 pub mod Names
 pub mod Queues
+pub mod Settled
 pub mod Words

@@ -2,11 +2,13 @@
 //! after a crash, and of what a survey found on them.
 #![tactic(auto)]
 
+mod laws;
 mod names;
 mod queues;
 mod regions;
 mod tree;
 
+pub use laws::homes_are_settled;
 pub use names::mounted_names;
 pub use regions::{StoreRegions, split_regions};
 pub use tree::mounted_tree;
