@@ -2,12 +2,14 @@
 //! after a crash, and of what a survey found on them.
 #![tactic(auto)]
 
+mod kernel;
 mod laws;
 mod names;
 mod queues;
 mod regions;
 mod tree;
 
+pub use kernel::{MountedRegions, mount_regions};
 pub use laws::homes_are_settled;
 pub use names::mounted_names;
 pub use regions::{StoreRegions, split_regions};
