@@ -2,6 +2,7 @@ pub mod Distinct
 pub mod Fronts
 pub mod Homes
 pub mod Parting
+pub mod Restoring
 pub mod Settling
 pub mod Splits
 pub mod Standings

@@ -1,11 +1,11 @@
 -- What a crash leaves of a store's regions, where it leaves a single disk.
-use Rattle.std.proofs.Common.{◌≡◌, ◌∙◌, ℕ, zero, suc, ◌+◌, ◌-◌, ◌%◌, ◌<◌, ◌≤◌, List, [], ◌∷◌}
-use Rattle.std.proofs.Common.{◌++◌, length, map, get_or, take, drop, set, refl, sym, ap, subst, arith}
+use Rattle.std.proofs.Common.{◌≡◌, ◌∙◌, ℕ, zero, suc, ◌+◌, ◌%◌, ◌<◌, ◌≤◌, List, [], ◌∷◌}
+use Rattle.std.proofs.Common.{◌++◌, length, map, get_or, take, drop, set, sym, ap, subst, arith}
 use Rattle.std.proofs.Common.{length-drop}
 use Rattle.std.proofs.Math.ListN as lists
 use Rattle.std.proofs.Math.Seq.{take-add}
 use Rattle.std.proofs.lemmas.Bool.Decides.{nat_tests}
-use Rattle.std.proofs.lemmas.List.{drop_more, get_or-drop, get_or-set_same, get_or-take, length-map}
+use Rattle.std.proofs.lemmas.List.{get_or-drop, get_or-set_same, get_or-take, length-map}
 use Rattle.std.proofs.lemmas.List.{length-take-le, take-append-drop}
 use Rattle.std.proofs.lemmas.List.FromFn.{get_or-map-range_with_len, get_or-range_with_len}
 use Rattle.cfs_block.specs.BlockImages.{BlockStep}
@@ -29,7 +29,7 @@ abbrev none_there : Seen WordStep
 none_there = record { device = 0; also = []; history = [] }
 
 -- what reads now is an image, and so it is with another image of one region
-words-now : (regions : List (Seen WordStep)) → IsEachImage IsImage regions (map words_of regions)
+pub words-now : (regions : List (Seen WordStep)) → IsEachImage IsImage regions (map words_of regions)
 words-now [] = tt
 words-now (region ∷ regions) = (now_is_image region.history, words-now regions)
 
@@ -52,8 +52,11 @@ module _ (disk : Disk) (regions : List (Seen WordStep)) (have : HaveWordsOf disk
       get_or (with-image k image) k [] ≡ image
   unfolding with-image
   at-image k image low =
-      get_or-set_same (map words_of regions) k image [] (omega (arith, low,
-      length-map regions words_of))
+      get_or-set_same (map words_of regions) k image [] (omega (
+        arith,
+        low,
+        length-map regions words_of,
+      ))
 
   -- a crash leaves one list of words of each region of the front and of each slot
   pub front-image : (k : ℕ) → k < 67 → k < length regions →
@@ -155,8 +158,11 @@ module _ (words : Words) (disk : Disk) (regions : List (Seen WordStep))
   journal-length read =
       ap length (sym read.journal)
       ∙ length-take-le 64 (drop 3 disk.front)
-      (omega (arith, length-drop 3 disk.front,
-      front-length disk regions have (omega (arith, many store))))
+      (omega (
+        arith,
+        length-drop 3 disk.front,
+        front-length disk regions have (omega (arith, many store)),
+      ))
 
   record-read : AreReadOff disk.front words → (k : ℕ) → k < 64 →
       get_or disk.front (3 + k) [] ≡ get_or words.journal k []

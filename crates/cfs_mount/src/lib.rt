@@ -10,7 +10,7 @@ mod regions;
 mod tree;
 
 pub use kernel::{MountedRegions, mount_regions};
-pub use laws::homes_are_settled;
+pub use laws::{brought_homes_are_settled, homes_are_settled};
 pub use names::mounted_names;
 pub use regions::{StoreRegions, split_regions};
 pub use tree::mounted_tree;

@@ -6,9 +6,11 @@ use cfs_pmem::MemRegion;
 
 /// Where the size words begin among the regions of a store, and where the slots.
 const FIRST_SIZE: usize = 67;
+
 const FIRST_SLOT: usize = 323;
 /// Where the copies of the table begin, and where the records of the journal.
 const FIRST_TABLE: usize = 1;
+
 const FIRST_RECORD: usize = 3;
 
 /// The regions of a store by what they hold, each list in the order of device numbers.

@@ -1,4 +1,4 @@
-use Rattle.std.proofs.Common.{◌≡◌, ◌≤◌, ◌∙◌, ◌++◌, ◌∷◌, ◌*◌, ◌/◌, ℕ, List, ap, ap₂, arith, drop}
+use Rattle.std.proofs.Common.{◌≡◌, ◌∙◌, ◌++◌, ◌*◌, ◌/◌, List, ap, ap₂, arith}
 use Rattle.std.proofs.Common.{length, map, rules, subst, sym, vec_len}
 use Rattle.std.proofs.lemmas.List.{drop-map}
 use Rattle.cfs_image.specs.Layout.{queues_of}
@@ -52,7 +52,7 @@ returns-clause-kernel c =
     let slots : List MemoryRegion = c.in_ok-split.split.slots.items in
     let size : vec_len c.in_ok-split.split.slots ≡ length slots = search rules in
     let count = sixteen-each c.args.regions.items slots c.len.result (c.len.ensures ∙ size)
-        c.in_ok-split.ensures.slots c.requires.queues in
+    c.in_ok-split.ensures.slots c.requires.queues in
     c.in_ok-names.ensures.kernel
     ∙ ap (λ tree. mounted_kernel tree slots (c.len.result / 16)) c.in_ok-stored.ensures.tree
     ∙ ap₂ (λ all number. mounted_kernel (recovered_tree (words_of c.args.words.now)) all number)
