@@ -1,5 +1,5 @@
 -- What a store holds that was brought home.
-use Rattle.std.proofs.Common.{◌≡◌, ◌∙◌, ℕ, ◌+◌, ◌%◌, ◌<◌, ◌≤◌, List, [], ◌∷◌, ◌++◌, length}
+use Rattle.std.proofs.Common.{◌≡◌, ◌∙◌, ℕ, ◌+◌, ◌%◌, List, [], ◌∷◌, length}
 use Rattle.std.proofs.Common.{map, get_or, take, drop, subst, sym, ap, arith}
 use Rattle.std.proofs.lemmas.List.{drop-take, take-take}
 use Rattle.cfs_block.specs.BlockImages.{BlockStep}
