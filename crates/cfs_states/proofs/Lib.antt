@@ -1,0 +1,4 @@
+pub mod Ranges
+pub mod Ascending
+pub mod Mapped
+pub mod Loaded

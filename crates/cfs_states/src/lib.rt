@@ -1,0 +1,7 @@
+//! One state of an inode for each file of a store of which nothing is pending, and its free blocks
+//! as a pool.
+#![tactic(auto)]
+
+mod laws;
+
+pub use laws::stored_states_stand;
