@@ -1,3 +1,4 @@
 pub mod Stored
 pub mod Shares
+pub mod Loads
 pub mod Laws

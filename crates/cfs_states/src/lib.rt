@@ -3,5 +3,8 @@
 #![tactic(auto)]
 
 mod laws;
+mod load;
+mod share;
+mod shares;
 
 pub use laws::stored_states_stand;

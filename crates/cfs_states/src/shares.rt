@@ -1,0 +1,70 @@
+//! The blocks of a store are handed to the records that they are tagged for.
+ghost use Rattle.std.specs.Prelude.{◌≡◌, ◌++◌, ◌∷◌, [], OnOk, filter, length, map};
+ghost use Rattle.std.specs.List.{All};
+ghost use Rattle.cfs_block.specs.BlockImages.{IsSureBlock};
+ghost use Rattle.cfs_block.specs.MemoryBlocks.{seen_of};
+ghost use Rattle.cfs_states.specs.Shares.{IsKnown, free_in, handed, views_of};
+ghost use Rattle.cfs_states.specs.Stored.{is_free};
+
+use crate::share::Share;
+use cfs_block::{FreeBlock, MemBlock};
+use cfs_file::NoMemory;
+use indexmap::IndexMap;
+
+/// What the inode number is multiplied by in a tag.
+const TAG_UNIT: u64 = 65_536;
+
+/// What each record has, by its number, and the blocks that no file has.
+#[derive(Drop)]
+pub struct Shares {
+    pub of_records: Vec<Share>,
+    pub free: Vec<FreeBlock<MemBlock>>,
+}
+
+impl Shares {
+    /// Hands a block to the record that it is tagged for, whose number `records` has by the inode
+    /// number. A block without a tag is free.
+    fn hand_out(
+        &mut self,
+        records: &IndexMap<u64, u32>,
+        block: MemBlock,
+    ) -> Result<(), NoMemory>
+        requires sure { IsSureBlock (seen_of block) }
+        requires known { IsKnown records.now (length self.old.of_records.items) (seen_of block) }
+        ensures shares { OnOk result (views_of self.new ≡
+            handed records.now (seen_of block ∷ []) 0 (views_of self.old)) }
+        ensures free { OnOk result (free_in self.new ≡
+            free_in self.old ++ filter is_free (seen_of block ∷ [])) }
+        ensures count { length self.new.of_records.items ≡ length self.old.of_records.items }
+    {
+        let tag = block.tag_word();
+        if tag == 0 {
+            self.free.push(FreeBlock::new(block))?;
+            return Ok(());
+        }
+        let Some(node) = records.get(&(tag / TAG_UNIT)) else {
+            unreachable!();
+        };
+        self.of_records[*node as usize].add((tag - 1) % TAG_UNIT, block)
+    }
+
+    /// Hands out all blocks, in order.
+    pub fn hand_out_all(
+        &mut self,
+        records: &IndexMap<u64, u32>,
+        blocks: Vec<MemBlock>,
+    ) -> Result<(), NoMemory>
+        requires sure { All IsSureBlock (map seen_of blocks.items) }
+        requires known { All (IsKnown records.now (length self.old.of_records.items))
+            (map seen_of blocks.items) }
+        ensures shares { OnOk result (views_of self.new ≡
+            handed records.now (map seen_of blocks.items) 0 (views_of self.old)) }
+        ensures free { OnOk result (free_in self.new ≡
+            free_in self.old ++ filter is_free (map seen_of blocks.items)) }
+    {
+        for block in blocks {
+            self.hand_out(records, block)?;
+        }
+        Ok(())
+    }
+}
