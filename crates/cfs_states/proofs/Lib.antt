@@ -2,3 +2,5 @@ pub mod Ranges
 pub mod Ascending
 pub mod Mapped
 pub mod Loaded
+pub mod Handed
+pub mod Orders

@@ -1,7 +1,7 @@
 -- What each record has of a store while its blocks are handed out by their tags.
 use Rattle.std.specs.Prelude.{ℕ, ◌+◌, ◌-◌, ◌/◌, ◌%◌, ◌<◌, ◌≡◌, ◌==◌, ◌&&◌, ◌⊎◌, ◌++◌, ◌^◌, not, Bool}
-use Rattle.std.specs.Prelude.{false, Option, Some, None, List, [], ◌∷◌, filter, get_or, length, map}
-use Rattle.std.specs.Prelude.{nat_eq, if◌then◌else◌}
+use Rattle.std.specs.Prelude.{true, false, Option, Some, None, List, [], ◌∷◌, filter, get_or, length}
+use Rattle.std.specs.Prelude.{map, nat_eq, if◌then◌else◌}
 use Rattle.std.specs.HashMap.{get}
 use Rattle.std.specs.List.Sorted.{IsPermutation}
 use Rattle.std.specs.Option.{option_map, option_map_or}
@@ -44,11 +44,14 @@ is_at records node seen = option_map_or (λ other. other == node) (record_of rec
 abbrev pub share_at : BlockMap → ℕ → List (Seen BlockStep) → List MappedSeen
 share_at records node blocks = map mapped_of (filter (is_at records node) blocks)
 
--- the block is free, or belongs to one of so many records
-abbrev pub IsKnown : BlockMap → ℕ → Seen BlockStep → Type 0
-IsKnown records count seen =
-    (is_free seen ≡ true)
-    ⊎ ((node : ℕ) × ((record_of records seen ≡ Some node) × (node < count)))
+-- the block is free, or belongs to a record
+pub record IsKnown (records : BlockMap) (seen : Seen BlockStep) : Type 0 where
+  pub record_is : (is_free seen ≡ true) ⊎ ((node : ℕ) × (record_of records seen ≡ Some node))
+
+-- there are so many records
+abbrev pub AreBelow : ℕ → BlockMap → Type 0
+AreBelow count records =
+    (ino node : ℕ) → get nat_eq records ino ≡ Some node → node < count
 
 -- ---- what a record has
 

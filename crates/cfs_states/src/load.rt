@@ -81,7 +81,7 @@ impl Loaded {
 
 /// The states of all files, and the size regions of the other records.
 pub fn load_all(alloc: Global, shares: Vec<Share>) -> Result<Loaded, NoMemory>
-    requires { All CanLoadShare (map share_view shares.items) }
+    requires { All (λ share. CanLoadShare (share_view share)) shares.items }
     ensures states { IfOk result (λ loaded. (ordered : ℕ → List MappedSeen) →
         AreOrders 0 (map share_view shares.items) ordered →
         states_in loaded ≡ states_by 0 (map share_view shares.items) ordered) }

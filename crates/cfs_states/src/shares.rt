@@ -3,7 +3,7 @@ ghost use Rattle.std.specs.Prelude.{◌≡◌, ◌++◌, ◌∷◌, [], OnOk, fi
 ghost use Rattle.std.specs.List.{All};
 ghost use Rattle.cfs_block.specs.BlockImages.{IsSureBlock};
 ghost use Rattle.cfs_block.specs.MemoryBlocks.{seen_of};
-ghost use Rattle.cfs_states.specs.Shares.{IsKnown, free_in, handed, views_of};
+ghost use Rattle.cfs_states.specs.Shares.{AreBelow, IsKnown, free_in, handed, views_of};
 ghost use Rattle.cfs_states.specs.Stored.{is_free};
 
 use crate::share::Share;
@@ -30,7 +30,8 @@ impl Shares {
         block: MemBlock,
     ) -> Result<(), NoMemory>
         requires sure { IsSureBlock (seen_of block) }
-        requires known { IsKnown records.now (length self.old.of_records.items) (seen_of block) }
+        requires known { IsKnown records.now (seen_of block) }
+        requires records { AreBelow (length self.old.of_records.items) records.now }
         ensures shares { OnOk result (views_of self.new ≡
             handed records.now (seen_of block ∷ []) 0 (views_of self.old)) }
         ensures free { OnOk result (free_in self.new ≡
@@ -45,7 +46,8 @@ impl Shares {
         let Some(node) = records.get(&(tag / TAG_UNIT)) else {
             unreachable!();
         };
-        self.of_records[*node as usize].add((tag - 1) % TAG_UNIT, block)
+        self.of_records[*node as usize].add((tag - 1) % TAG_UNIT, block)?;
+        Ok(())
     }
 
     /// Hands out all blocks, in order.
@@ -54,9 +56,9 @@ impl Shares {
         records: &IndexMap<u64, u32>,
         blocks: Vec<MemBlock>,
     ) -> Result<(), NoMemory>
-        requires sure { All IsSureBlock (map seen_of blocks.items) }
-        requires known { All (IsKnown records.now (length self.old.of_records.items))
-            (map seen_of blocks.items) }
+        requires sure { All (λ block. IsSureBlock (seen_of block)) blocks.items }
+        requires known { All (λ block. IsKnown records.now (seen_of block)) blocks.items }
+        requires records { AreBelow (length self.old.of_records.items) records.now }
         ensures shares { OnOk result (views_of self.new ≡
             handed records.now (map seen_of blocks.items) 0 (views_of self.old)) }
         ensures free { OnOk result (free_in self.new ≡
