@@ -1,4 +1,5 @@
 pub mod Stored
 pub mod Shares
+pub mod Begins
 pub mod Loads
 pub mod Laws

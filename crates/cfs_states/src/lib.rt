@@ -2,8 +2,10 @@
 //! as a pool.
 #![tactic(auto)]
 
+mod files;
 mod laws;
 mod load;
+mod pool;
 mod share;
 mod shares;
 

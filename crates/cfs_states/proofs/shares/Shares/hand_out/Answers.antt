@@ -1,4 +1,4 @@
-use Rattle.std.proofs.Common.{◌/◌, sym}
+use Rattle.std.proofs.Common.{◌/◌, arith, sym}
 use Rattle.cfs_block.specs.MemoryBlocks.{seen_of}
 use Rattle.cfs_states.specs.Shares.{views_of}
 use Rattle.cfs_states.proofs.Handed.{free-none, handed-none, handed-set, known-some, tagged-some}
@@ -19,7 +19,8 @@ unreachable-requires c =
 pub index_mut-requires : goal.index_mut-requires
 index_mut-requires c =
     let less = c.requires.records (c.tag_word-tag.result / 65536) c.in-Some.node.now
-    (sym c.in-Some.ensures.value) in ?
+    (sym c.in-Some.ensures.value) in
+    omega (arith, less, c.args.self.now.of_records.ok.0)
 
 pub returns-clause-shares : goal.returns-clause-shares
 returns-clause-shares c =
