@@ -4,3 +4,5 @@ pub mod Mapped
 pub mod Loaded
 pub mod Handed
 pub mod Orders
+pub mod Begins
+pub mod Known

@@ -41,10 +41,10 @@ of-file ino at word less is = (λ none. absurd (omega arith), omega arith)
 number-of : (ino at word : ℕ) → at < 256 → word ≡ tag_of ino at → (word - 1) % 65536 ≡ at
 number-of ino at word less is = omega arith
 
-of-true : (ino : ℕ) (seen : Block) → tag seen ≢ 0 → tag seen / 65536 ≡ ino → is_of ino seen ≡ true
+pub of-true : (ino : ℕ) (seen : Block) → tag seen ≢ 0 → tag seen / 65536 ≡ ino → is_of ino seen ≡ true
 of-true ino seen some same = grind (arith, nat_tests)
 
-true-of : (ino : ℕ) (seen : Block) → is_of ino seen ≡ true →
+pub true-of : (ino : ℕ) (seen : Block) → is_of ino seen ≡ true →
     (tag seen ≢ 0) × (tag seen / 65536 ≡ ino)
 true-of ino seen is = (grind (arith, nat_tests), grind (arith, nat_tests))
 
@@ -71,7 +71,7 @@ own-number n ino seen most (inr known) own =
 
 -- ---- the first block with a tag
 
-find-tests : {X : Type 0} (p : X → Bool) (xs : List X) (x : X) → find p xs ≡ Some x →
+pub find-tests : {X : Type 0} (p : X → Bool) (xs : List X) (x : X) → find p xs ≡ Some x →
     Has xs x × (p x ≡ true)
 find-tests p [] x is = absurd (cc)
 find-tests p (y ∷ ys) x is = elim (cases_Bool (p y)) [

@@ -23,11 +23,11 @@ pub fn records_of(alloc: Global, nodes: &[Node]) -> Result<IndexMap<u64, u32>, N
 }
 
 /// The inode number of the file that has this record, where one has it. Linear in the nodes.
-pub fn owner_of(nodes: &[Node], record: usize) -> Option<u64>
-    ensures { result ≡ owner_at (files_of nodes.now) record }
+pub fn owner_of(nodes: &[Node], node: usize) -> Option<u64>
+    ensures { result ≡ owner_at (files_of nodes.now) node }
 {
     nodes
         .iter()
-        .find(|node| node.rec as usize == record && !node.kind.is_directory())
-        .map(|node| node.ino)
+        .find(|one| one.rec as usize == node && !one.kind.is_directory())
+        .map(|one| one.ino)
 }
