@@ -2,7 +2,7 @@
 use Rattle.std.proofs.Common.{◌≡◌, ◌∙◌, ℕ, zero, suc, ◌+◌, ◌<◌, List, [], ◌∷◌, ◌++◌, length, map}
 use Rattle.std.proofs.Common.{get_or, arith, refl, sym, ap}
 use Rattle.std.specs.List.{range_with_len}
-use Rattle.std.proofs.lemmas.List.{map-append}
+use Rattle.std.proofs.lemmas.List.{length-map, map-append}
 use Rattle.std.proofs.lemmas.List.FromFn.{fill_by_all}
 use Rattle.cfs_pmem.specs.Images.{Seen, WordStep}
 use Rattle.cfs_pmem.specs.Objects.{seen_at}
@@ -35,9 +35,8 @@ pub begun-push : {S R : Type 0} (view : S → ShareView) (see : R → Seen WordS
     map view shares ≡ begun files 0 (map see yielded) →
     view share
     ≡ record { size = see size; owner = owner_at files (length shares); blocks = [] } →
-    length (map view shares) ≡ length shares → length (map see yielded) ≡ length yielded →
     map view (shares ++ share ∷ []) ≡ begun files 0 (map see (yielded ++ size ∷ []))
-begun-push view see files yielded size shares share was is long more =
+begun-push view see files yielded size shares share was is =
     map-append view shares (share ∷ [])
     ∙ ap (λ (l : List ShareView). l ++ view share ∷ []) was
     ∙ ap (λ (s : ShareView). begun files 0 (map see yielded) ++ s ∷ [])
@@ -45,8 +44,7 @@ begun-push view see files yielded size shares share was is long more =
     let it : ShareView = record { size = see size; owner = owner_at files k; blocks = [] } in it)
     (omega (
       arith,
-      long,
-      more,
+      length-map shares view,
       ap length was,
       begun-long files 0 (map see yielded),
     )))

@@ -142,7 +142,9 @@ at-is-of : (files : List File) (file : File) (records : BlockMap) (seen : Block)
     IsTagAmong files (tag seen) → is_at records file.node seen ≡ is_of file.ino seen
 at-is-of files file records seen are maps among (inl none) =
     let test : is_free seen ≡ true = grind (arith, nat_tests) in
-    rw test (sym (not-free-of file.ino seen none))
+    ap (λ (b : Bool). option_map_or (λ other. other == file.node)
+    (if b then None else get nat_eq records (tag seen / 65536)) false) test
+    ∙ sym (not-free-of file.ino seen none)
 at-is-of files file records seen are maps among (inr known) =
     ap (λ (o : Option ℕ). option_map_or (λ other. other == file.node) o false)
     (record-is files known.0 known.1 records seen are maps known.2.0 known.2.1.0 known.2.1.1)

@@ -6,3 +6,4 @@ pub mod Handed
 pub mod Orders
 pub mod Begins
 pub mod Known
+pub mod Owners

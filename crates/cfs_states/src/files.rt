@@ -26,8 +26,8 @@ pub fn records_of(alloc: Global, nodes: &[Node]) -> Result<IndexMap<u64, u32>, N
 pub fn owner_of(nodes: &[Node], node: usize) -> Option<u64>
     ensures { result ≡ owner_at (files_of nodes.now) node }
 {
-    nodes
+    let found = nodes
         .iter()
-        .find(|one| one.rec as usize == node && !one.kind.is_directory())
-        .map(|one| one.ino)
+        .find(|one| one.rec as usize == node && !one.kind.is_directory())?;
+    Some(found.ino)
 }
