@@ -24,7 +24,7 @@ begun-more files node (first ∷ sizes) size =
     ∙ ap (λ (k : ℕ). begun files (node + 1) sizes
     ++ record { size = size; owner = owner_at files k; blocks = [] } ∷ []) (omega arith))
 
-begun-long : (files : List File) (node : ℕ) (sizes : List (Seen WordStep)) →
+pub begun-long : (files : List File) (node : ℕ) (sizes : List (Seen WordStep)) →
     length (begun files node sizes) ≡ length sizes
 begun-long files node [] = refl
 begun-long files node (size ∷ sizes) = ap suc (begun-long files (node + 1) sizes)

@@ -37,19 +37,19 @@ share-own : (records : BlockMap) (node : ℕ) (seen : Block) → is_at records n
 share-own records node seen own =
     ap (λ (b : Bool). map mapped_of (cond b (seen ∷ []) [])) own
 
-is-other : (records : BlockMap) (node k : ℕ) (seen : Block) → record_of records seen ≡ Some k →
+pub is-other : (records : BlockMap) (node k : ℕ) (seen : Block) → record_of records seen ≡ Some k →
     k ≢ node → is_at records node seen ≡ false
 is-other records node k seen is differs =
     ap (λ (o : Option ℕ). option_map_or (λ other. other == node) o false) is
     ∙ (let test : (k == node) ≡ false = grind (arith, nat_tests) in test)
 
-is-own : (records : BlockMap) (node k : ℕ) (seen : Block) → record_of records seen ≡ Some k →
+pub is-own : (records : BlockMap) (node k : ℕ) (seen : Block) → record_of records seen ≡ Some k →
     k ≡ node → is_at records node seen ≡ true
 is-own records node k seen is same =
     ap (λ (o : Option ℕ). option_map_or (λ other. other == node) o false) is
     ∙ (let test : (k == node) ≡ true = grind (arith, nat_tests) in test)
 
-is-none : (records : BlockMap) (node : ℕ) (seen : Block) → record_of records seen ≡ None →
+pub is-none : (records : BlockMap) (node : ℕ) (seen : Block) → record_of records seen ≡ None →
     is_at records node seen ≡ false
 is-none records node seen is =
     ap (λ (o : Option ℕ). option_map_or (λ other. other == node) o false) is

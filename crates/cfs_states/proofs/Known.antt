@@ -190,15 +190,62 @@ filter-same {X} p q (x ∷ xs) same =
     ∙ ap (λ (l : List X). cond (q x) (x ∷ l) l)
     (filter-same p q xs (All-tail (λ x. p x ≡ q x) x xs same))
 
+pub at-same : (files : List File) (file : File) (records : BlockMap) (blocks : List Block) →
+    AreFiles files → IsRecordMap files records → Contains files file →
+    All (λ seen. IsTagAmong files (tag seen)) blocks →
+    filter (is_at records file.node) blocks ≡ filter (is_of file.ino) blocks
+at-same files file records blocks are maps among tags =
+    filter-same (is_at records file.node) (is_of file.ino) blocks
+    (All-weaker (λ seen. IsTagAmong files (tag seen))
+    (λ seen. is_at records file.node seen ≡ is_of file.ino seen)
+    (λ seen known. at-is-of files file records seen are maps among known) blocks tags)
+
 pub share-same : (files : List File) (file : File) (records : BlockMap) (blocks : List Block) →
     AreFiles files → IsRecordMap files records → Contains files file →
     All (λ seen. IsTagAmong files (tag seen)) blocks →
     share_at records file.node blocks ≡ share_of file.ino blocks
 share-same files file records blocks are maps among tags =
-    ap (map mapped_of) (filter-same (is_at records file.node) (is_of file.ino) blocks
-    (All-weaker (λ seen. IsTagAmong files (tag seen))
-    (λ seen. is_at records file.node seen ≡ is_of file.ino seen)
-    (λ seen known. at-is-of files file records seen are maps among known) blocks tags))
+    ap (map mapped_of) (at-same files file records blocks are maps among tags)
+
+-- no block belongs to a record without a file
+no-file : (files : List File) (records : BlockMap) (node : ℕ) (seen : Block) →
+    IsRecordMap files records → AreFiles files → file_at files node ≡ None →
+    (o : Option ℕ) → record_of records seen ≡ o → is_free seen ≡ false →
+    option_map_or (λ other. other == node) o false ≡ false
+no-file files records node seen maps are none None is other = refl
+no-file files records node seen maps are none (Some k) is other =
+    let found : get nat_eq records (tag seen / 65536) ≡ Some k = rw other at is in
+    let file = map-some (λ f. f.node) (file_with (tag seen / 65536) files) k
+    (sym (maps (tag seen / 65536)) ∙ found) in
+    let facts = with-ino files (tag seen / 65536) file.0 file.1.0 in
+    elim (same_or_not k node) [
+      | inl same ↦
+          let there = node-of files file.0 are facts.0 in
+          let clash : file_at files node ≡ Some file.0 =
+          subst (λ (n : ℕ). file_at files n ≡ Some file.0) (file.1.1 ∙ same) there in
+          absurd (cc)
+      | inr differs ↦ let test : (k == node) ≡ false = grind (arith, nat_tests) in test
+    ]
+
+no-file-at : (files : List File) (records : BlockMap) (node : ℕ) (seen : Block) →
+    IsRecordMap files records → AreFiles files → file_at files node ≡ None →
+    is_at records node seen ≡ false
+no-file-at files records node seen maps are none = elim (cases_Bool (is_free seen)) [
+  | inl free ↦
+      ap (λ (b : Bool). option_map_or (λ other. other == node)
+      (if b then None else get nat_eq records (tag seen / 65536)) false) free
+  | inr other ↦
+      no-file files records node seen maps are none (record_of records seen) refl other
+]
+
+pub at-nothing : (files : List File) (records : BlockMap) (node : ℕ) (blocks : List Block) →
+    IsRecordMap files records → AreFiles files → file_at files node ≡ None →
+    filter (is_at records node) blocks ≡ []
+at-nothing files records node [] maps are none = refl
+at-nothing files records node (x ∷ xs) maps are none =
+    ap (λ (b : Bool). cond b (x ∷ filter (is_at records node) xs) (filter (is_at records node) xs))
+    (no-file-at files records node x maps are none)
+    ∙ at-nothing files records node xs maps are none
 
 pub tags-below : (files : List File) (blocks : List Block) →
     All (λ seen. IsTagAmong files (tag seen)) blocks →

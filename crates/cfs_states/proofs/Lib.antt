@@ -7,3 +7,6 @@ pub mod Orders
 pub mod Begins
 pub mod Known
 pub mod Owners
+pub mod Divided
+pub mod Whole
+pub mod Made

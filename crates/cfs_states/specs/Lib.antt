@@ -2,4 +2,5 @@ pub mod Stored
 pub mod Shares
 pub mod Begins
 pub mod Loads
+pub mod Parts
 pub mod Laws

@@ -5,8 +5,10 @@
 mod files;
 mod laws;
 mod load;
+mod parts;
 mod pool;
 mod share;
 mod shares;
 
 pub use laws::stored_states_stand;
+pub use parts::{FileParts, load_files};
