@@ -10,3 +10,4 @@ pub mod Owners
 pub mod Divided
 pub mod Whole
 pub mod Made
+pub mod Behind

@@ -46,14 +46,14 @@ pub as-many : {S R : Type 0} (view : S → ShareView) (see : R → Seen WordStep
 as-many view see files shares sizes is =
     sym (length-map shares view) ∙ ap length is ∙ begun-long files 0 (map see sizes)
 
+one-or-none : {X : Type 0} (b : Bool) (x : X) (kept xs : List X) → length kept ≤ length xs →
+    length (cond b (x ∷ kept) kept) ≤ length (x ∷ xs)
+one-or-none true x kept xs short = omega arith
+one-or-none false x kept xs short = omega arith
+
 filter-short : {X : Type 0} (p : X → Bool) (xs : List X) → length (filter p xs) ≤ length xs
 filter-short p [] = omega arith
-filter-short {X} p (x ∷ xs) = by-test (p x)
-  where
-    by-test : (b : Bool) →
-        length (cond b (x ∷ filter p xs) (filter p xs)) ≤ length (x ∷ xs)
-    by-test true = let more = filter-short p xs in omega arith
-    by-test false = let more = filter-short p xs in omega arith
+filter-short p (x ∷ xs) = one-or-none (p x) x (filter p xs) xs (filter-short p xs)
 
 -- no more blocks are free than there are
 pub few-free : {F B : Type 0} (view : F → Block) (see : B → Block) (free : List F)

@@ -4,3 +4,4 @@ pub mod Begins
 pub mod Loads
 pub mod Parts
 pub mod Laws
+pub mod Behind

@@ -10,5 +10,5 @@ mod pool;
 mod share;
 mod shares;
 
-pub use laws::stored_states_stand;
+pub use laws::{brought_home_are_stored, stored_states_stand};
 pub use parts::{FileParts, load_files};
