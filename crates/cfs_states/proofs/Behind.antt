@@ -3,7 +3,7 @@ use Rattle.std.proofs.Common.{◌≡◌, ◌≢◌, ◌∙◌, ℕ, zero, suc, �
 use Rattle.std.proofs.Common.{inl, inr, Bool, true, false, Option, Some, None, List, [], ◌∷◌, length}
 use Rattle.std.proofs.Common.{map, get_or, set, take, drop, arith, refl, sym, ap, subst}
 use Rattle.std.proofs.Common.{if◌then◌else◌}
-use Rattle.std.specs.Prelude.{◌==◌, ◌&&◌, nat_le, nat_lt}
+use Rattle.std.specs.Prelude.{◌==◌, ◌&&◌, is_none, nat_le, nat_lt, unwrap_or}
 use Rattle.std.specs.List.{All, Contains, range_with_len}
 use Rattle.std.proofs.lemmas.Bool.{cases_lt, eqb-true, leb-true}
 use Rattle.std.proofs.lemmas.Bool.Decides.{nat_tests}
@@ -93,7 +93,10 @@ tag-in-range offset nodes tags at sound below file =
     (sym file) ∙ here in
     let first : Check =
     check (is_block_tag (get_or tags at 0)) (tag_at offset at) (get_or tags at 0) 256 in
-    passed first (sound_parts (first ∷ []) _ own).0
+    let rest : List Check =
+    check (is_none (block_of tags at (get_or tags at 0))) (tag_at offset at) (get_or tags at 0)
+    (unwrap_or (block_of tags at (get_or tags at 0)) 0) ∷ [] in
+    passed first (sound_parts (first ∷ []) rest own).0
 
 in-range : (word : ℕ) → is_block_tag word ≡ true → (1 ≤ word % 65536) × (word % 65536 ≤ 256)
 in-range word is =
