@@ -32,10 +32,10 @@ module _ {X : Type 0} (n : X → ℕ) where
     | inr later ↦ elim had [
       | inl same ↦ sym same
       | inr deeper ↦ absurd (omega (
-          arith,
-          ascends-low (n y + 1) ys x over.1 later,
-          ascends-low (n x + 1) xs y up.1 deeper,
-        ))
+        arith,
+        ascends-low (n y + 1) ys x over.1 later,
+        ascends-low (n x + 1) xs y up.1 deeper,
+      ))
     ]
   ]
 
@@ -44,11 +44,11 @@ module _ {X : Type 0} (n : X → ℕ) where
       Has xs z → Has (y ∷ ys) z → Has ys z
   rest-has low x y z xs ys up same has had = elim had [
     | inl first ↦ absurd (omega (
-        arith,
-        ascends-low (n x + 1) xs z up.1 has,
-        ap n first,
-        ap n same,
-      ))
+      arith,
+      ascends-low (n x + 1) xs z up.1 has,
+      ap n first,
+      ap n same,
+    ))
     | inr more ↦ more
   ]
 

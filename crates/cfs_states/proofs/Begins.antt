@@ -70,7 +70,7 @@ at-begun files node (suc k) (size ∷ sizes) d less =
     at-begun files (node + 1) k sizes d (omega arith)
     ∙ ap (λ (j : ℕ).
     let it : ShareView =
-        record { size = seen_at sizes k; owner = owner_at files j; blocks = [] } in it)
+    record { size = seen_at sizes k; owner = owner_at files j; blocks = [] } in it)
     (omega arith)
 
 pub begun-range : (files : List File) (sizes : List (Seen WordStep)) →
@@ -81,5 +81,5 @@ begun-range files sizes =
     (λ k less. at-begun files 0 k sizes (begun_at files sizes 0) less
     ∙ ap (λ (j : ℕ).
     let it : ShareView =
-        record { size = seen_at sizes k; owner = owner_at files j; blocks = [] } in it)
+    record { size = seen_at sizes k; owner = owner_at files j; blocks = [] } in it)
     (omega arith))

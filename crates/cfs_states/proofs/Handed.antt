@@ -205,14 +205,11 @@ handed-push see records yielded block old now new was is =
     ∙ ap (λ (l : List Block). handed records l 0 old)
     (sym (map-append see yielded (block ∷ [])))
 
-pub free-more : {B : Type 0} (see : B → Block) (yielded : List B) (block : B)
-    (old now new : List Block) → now ≡ old ++ filter is_free (map see yielded) →
-    new ≡ now ++ filter is_free (see block ∷ []) →
-    new ≡ old ++ filter is_free (map see (yielded ++ block ∷ []))
-free-more see yielded block old now new was is =
-    is ∙ ap (λ (l : List Block). l ++ filter is_free (see block ∷ [])) was
-    ∙ append_assoc old (filter is_free (map see yielded)) (filter is_free (see block ∷ []))
-    ∙ ap (λ (l : List Block). old ++ l)
-    (sym (filter-append is_free (map see yielded) (see block ∷ [])))
-    ∙ ap (λ (l : List Block). old ++ filter is_free l)
-    (sym (map-append see yielded (block ∷ [])))
+pub free-more : {B : Type 0} (free : B → Bool) (yielded : List B) (block : B)
+    (old now new : List B) → now ≡ old ++ filter free yielded →
+    new ≡ now ++ filter free (block ∷ []) →
+    new ≡ old ++ filter free (yielded ++ block ∷ [])
+free-more {B} free yielded block old now new was is =
+    is ∙ ap (λ (l : List B). l ++ filter free (block ∷ [])) was
+    ∙ append_assoc old (filter free yielded) (filter free (block ∷ []))
+    ∙ ap (λ (l : List B). old ++ l) (sym (filter-append free yielded (block ∷ [])))

@@ -126,8 +126,11 @@ is-known files records seen are maps (inl none) = record {
   record_is = inl (let test : is_free seen ≡ true = grind (arith, nat_tests) in test);
 }
 is-known files records seen are maps (inr known) = record {
-  record_is = inr (known.0.node, record-is files known.0 known.1 records seen are maps
-      known.2.0 known.2.1.0 known.2.1.1);
+  record_is = inr (
+    known.0.node,
+    record-is files known.0 known.1 records seen are maps
+        known.2.0 known.2.1.0 known.2.1.1,
+  );
 }
 
 not-free-of : (ino : ℕ) (seen : Block) → tag seen ≡ 0 → is_of ino seen ≡ false

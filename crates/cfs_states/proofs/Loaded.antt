@@ -126,9 +126,12 @@ stored-core files file sizes blocks stored among =
     let core = loaded-there file (disk_from sizes blocks) in
     let fresh = loaded-fresh files file (disk_from sizes blocks) (disk_from sizes blocks) core.0
     among (stay files sizes blocks stored) refl core.1 in
-    let has = has-file file sizes blocks core.0 fresh.0 core.1 in (core.0, record {
-      has = has;
-      base = core.1.base;
-      together = stored-stands file.ino (seen_at sizes file.node) (size_word sizes file.node)
-          (mapped_in file.ino blocks) (is-stored files file sizes blocks stored among) core.0 has;
-    })
+    let has = has-file file sizes blocks core.0 fresh.0 core.1 in (
+      core.0,
+      record {
+        has = has;
+        base = core.1.base;
+        together = stored-stands file.ino (seen_at sizes file.node) (size_word sizes file.node)
+            (mapped_in file.ino blocks) (is-stored files file sizes blocks stored among) core.0 has;
+      },
+    )

@@ -6,7 +6,8 @@ use Rattle.std.specs.List.{All, cons_option, filter_map, flat_map, range_with_le
 use Rattle.std.specs.List.Sorted.{IsPermutation}
 use Rattle.std.proofs.lemmas.List.{get_or-map, length-map}
 use Rattle.std.proofs.lemmas.List.Elements.{All-weaker}
-use Rattle.std.proofs.lemmas.List.Sorted.{IsPermutation-append_left, IsPermutation-trans}
+use Rattle.std.proofs.lemmas.List.Sorted.{IsPermutation-append_left, IsPermutation-map}
+use Rattle.std.proofs.lemmas.List.Sorted.{IsPermutation-trans}
 use Rattle.cfs_pmem.specs.Images.{Seen, WordStep}
 use Rattle.cfs_block.specs.BlockImages.{BlockStep, content_of}
 use Rattle.cfs_gather.specs.Seens.{blocks_in_active, seens_in_active}
@@ -56,19 +57,45 @@ filter-short p [] = omega arith
 filter-short p (x ∷ xs) = one-or-none (p x) x (filter p xs) xs (filter-short p xs)
 
 -- no more blocks are free than there are
-pub few-free : {F B : Type 0} (view : F → Block) (see : B → Block) (free : List F)
-    (blocks : List B) (before : List Block) → map view free ≡ before ++ filter is_free (map see blocks) →
-    before ≡ [] → length free ≤ length blocks
-few-free view see free blocks before is none =
-    let all : map view free ≡ filter is_free (map see blocks) =
-    is ∙ ap (λ (l : List Block). l ++ filter is_free (map see blocks)) none in
+pub few-free : {F B : Type 0} (view : F → B) (free : B → Bool) (frees : List F) (blocks : List B)
+    (before : List B) → map view frees ≡ before ++ filter free blocks → before ≡ [] →
+    length frees ≤ length blocks
+few-free {F} {B} view free frees blocks before is none =
+    let all : map view frees ≡ filter free blocks =
+    is ∙ ap (λ (l : List B). l ++ filter free blocks) none in
     omega (
       arith,
-      length-map free view,
+      length-map frees view,
       ap length all,
-      filter-short is_free (map see blocks),
-      length-map blocks see,
+      filter-short free blocks,
     )
+
+filter-seen : {B : Type 0} (see : B → Block) (blocks : List B) →
+    filter is_free (map see blocks) ≡ map see (filter (λ b. is_free (see b)) blocks)
+filter-seen see [] = refl
+filter-seen {B} see (x ∷ xs) =
+    ap (λ (l : List Block). cond (is_free (see x)) (see x ∷ l) l) (filter-seen see xs)
+    ∙ chosen (is_free (see x)) x (filter (λ b. is_free (see b)) xs)
+  where
+    chosen : (b : Bool) (x : B) (l : List B) →
+        cond b (see x ∷ map see l) (map see l) ≡ map see (cond b (x ∷ l) l)
+    chosen true x l = refl
+    chosen false x l = refl
+
+map-seen : {F B : Type 0} (see : B → Block) (view : F → B) (frees : List F) →
+    map see (map view frees) ≡ map (λ f. see (view f)) frees
+map-seen see view [] = refl
+map-seen see view (f ∷ fs) = ap (λ (l : List Block). see (view f) ∷ l) (map-seen see view fs)
+
+-- the free blocks as they are seen
+pub free-seen : {F B : Type 0} (see : B → Block) (view : F → B) (blocks : List B)
+    (frees : List F) → IsPermutation (filter (λ b. is_free (see b)) blocks) (map view frees) →
+    IsPermutation (filter is_free (map see blocks)) (map (λ f. see (view f)) frees)
+free-seen see view blocks frees same =
+    subst (λ (l : List Block). IsPermutation l (map (λ f. see (view f)) frees))
+    (sym (filter-seen see blocks))
+    (subst (λ (l : List Block). IsPermutation (map see (filter (λ b. is_free (see b)) blocks)) l)
+    (map-seen see view frees) (IsPermutation-map see _ _ same))
 
 -- ---- those that are there
 

@@ -53,8 +53,11 @@ in-order ino old new ordered same sorted is =
 pub orders-more : (node : ℕ) (shares : List ShareView) (share : ShareView)
     (ordered : ℕ → List MappedSeen) → AreOrders node (shares ++ share ∷ []) ordered →
     AreOrders node shares ordered × IsOrderOfShare share (ordered (node + length shares))
-orders-more node [] share ordered are = (tt, subst (λ (k : ℕ).
-    IsOrderOfShare share (ordered k)) (omega arith) are.0)
+orders-more node [] share ordered are = (
+  tt,
+  subst (λ (k : ℕ).
+      IsOrderOfShare share (ordered k)) (omega arith) are.0,
+)
 orders-more node (first ∷ shares) share ordered are =
     let later = orders-more (node + 1) shares share ordered are.1 in (
       (are.0, later.0),

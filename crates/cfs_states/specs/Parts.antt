@@ -3,8 +3,7 @@ use Rattle.std.specs.Prelude.{ℕ, Option, List, map}
 use Rattle.std.specs.List.{filter_map}
 use Rattle.std.specs.Option.{option_map}
 use Rattle.cfs_pmem.specs.Images.{Seen, WordStep}
-use Rattle.cfs_block.specs.BlockImages.{BlockStep}
-use Rattle.cfs_block.specs.MemoryBlocks.{seen_of}
+use Rattle.cfs_block.specs.declared.mem_block.MemBlock.{MemBlock}
 use Rattle.cfs_active.specs.Memory.{words_seen}
 use Rattle.cfs_active.specs.View.{ActiveView, active_view}
 use Rattle.cfs_states.specs.declared.parts.FileParts.{FileParts}
@@ -17,8 +16,8 @@ states_of parts = map (λ state. option_map active_view state) parts.states.item
 abbrev pub regions_of : FileParts → List (Option (Seen WordStep))
 regions_of parts = map (λ size. option_map words_seen size) parts.sizes.items
 
-abbrev pub free_of : FileParts → List (Seen BlockStep)
-free_of parts = map (λ free. seen_of free.block) parts.pool.free
+abbrev pub free_of : FileParts → List MemBlock
+free_of parts = map (λ free. free.block) parts.pool.free
 
 -- those that are there
 

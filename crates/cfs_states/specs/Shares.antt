@@ -7,6 +7,7 @@ use Rattle.std.specs.List.Sorted.{IsPermutation}
 use Rattle.std.specs.Option.{option_map, option_map_or}
 use Rattle.cfs_pmem.specs.Images.{IsSure, Seen, WordStep, words_of}
 use Rattle.cfs_block.specs.BlockImages.{BlockStep, content_of}
+use Rattle.cfs_block.specs.declared.mem_block.MemBlock.{MemBlock}
 use Rattle.cfs_block.specs.MemoryBlocks.{seen_of}
 use Rattle.cfs_inode.specs.New.{AreMapped, MappedSeen, stored_state, told_mapped}
 use Rattle.cfs_active.specs.Loads.{IsLoadable}
@@ -72,8 +73,8 @@ abbrev pub views_of : Shares → List ShareView
 views_of shares = map share_view shares.of_records.items
 
 -- the blocks that no record has
-abbrev pub free_in : Shares → List (Seen BlockStep)
-free_in shares = map (λ free. seen_of free.block) shares.free.items
+abbrev pub free_in : Shares → List MemBlock
+free_in shares = map (λ free. free.block) shares.free.items
 
 abbrev pub with_mapped : List MappedSeen → ShareView → ShareView
 with_mapped more share = record share { blocks = share.blocks ++ more }

@@ -8,6 +8,8 @@ use Rattle.cfs_file.specs.declared.sizes.TheConstants.{FILE_BLOCKS, LONGEST_FILE
 use Rattle.cfs_pmem.specs.Images.{IsSure, Seen, WordStep, words_of}
 use Rattle.cfs_pmem.specs.Objects.{seen_at}
 use Rattle.cfs_block.specs.BlockImages.{BlockStep, IsSureBlock, content_of}
+use Rattle.cfs_block.specs.declared.mem_block.MemBlock.{MemBlock}
+use Rattle.cfs_block.specs.MemoryBlocks.{seen_of}
 use Rattle.cfs_medium.specs.Store.{byte_in, stored_file, tag_of}
 use Rattle.cfs_home.specs.Disks.{AreFiles, File}
 use Rattle.cfs_inode.specs.New.{MappedSeen, stored_state}
@@ -69,6 +71,9 @@ region_at files sizes node = none_or (seen_at sizes node) (file_at files node)
 -- no file has the block
 abbrev pub is_free : Seen BlockStep → Bool
 is_free seen = (content_of seen).tag == 0
+
+abbrev pub is_free_block : MemBlock → Bool
+is_free_block block = is_free (seen_of block)
 
 -- ---- the store
 

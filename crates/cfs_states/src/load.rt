@@ -63,7 +63,11 @@ impl Loaded {
         ensures sizes { OnOk result
             (sizes_in self.new ≡ sizes_in self.old ++ region_of (share_view share) ∷ []) }
     {
-        let Share { size, owner, blocks } = share;
+        let Share {
+            size,
+            owner,
+            blocks,
+        } = share;
         match owner {
             Some(ino) => {
                 let active = load_file(alloc, ino, size, blocks)?;

@@ -7,7 +7,7 @@ ghost use Rattle.cfs_block.specs.MemoryBlocks.{seen_of};
 ghost use Rattle.cfs_gather.specs.Seens.{blocks_in_parts, seens_in_active};
 ghost use Rattle.cfs_plan.specs.Files.{files_of};
 ghost use Rattle.cfs_states.specs.Parts.{free_of, present, regions_of, states_of};
-ghost use Rattle.cfs_states.specs.Stored.{AreStored, is_free, region_at, state_at};
+ghost use Rattle.cfs_states.specs.Stored.{AreStored, is_free_block, region_at, state_at};
 
 use crate::files::records_of;
 use crate::load::{Loaded, load_all};
@@ -54,7 +54,7 @@ pub fn load_files(
         map (region_at (files_of nodes.now) (map words_seen sizes.items))
         (range_with_len 0 (length sizes.items))) }
     ensures free { IfOk result (λ parts.
-        IsPermutation (filter is_free (map seen_of blocks.items)) (free_of parts)) }
+        IsPermutation (filter is_free_block blocks.items) (free_of parts)) }
     ensures room { IfOk result (λ parts. parts.pool.room ≡ vec_len blocks) }
     // Each region and each block is in one of the parts, and in one alone.
     ensures all_regions { IfOk result (λ parts. IsPermutation (map words_seen sizes.items)

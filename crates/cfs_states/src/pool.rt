@@ -1,7 +1,6 @@
 //! The free blocks of a store.
 ghost use Rattle.std.specs.Prelude.{◌≡◌, ◌≤◌, IfOk, map, vec_len};
 ghost use Rattle.std.specs.List.Sorted.{IsPermutation};
-ghost use Rattle.cfs_block.specs.MemoryBlocks.{seen_of};
 
 use cfs_block::{FreeBlock, MemBlock};
 use cfs_file::NoMemory;
@@ -16,7 +15,7 @@ pub fn free_pool(
 ) -> Result<Pool<FreeBlock<MemBlock>>, NoMemory>
     requires { vec_len free ≤ room }
     ensures free { IfOk result (λ pool. IsPermutation
-        (map (λ one. seen_of one.block) free.items) (map (λ one. seen_of one.block) pool.free)) }
+        (map (λ one. one.block) free.items) (map (λ one. one.block) pool.free)) }
     ensures room { IfOk result (λ pool. pool.room ≡ room) }
 {
     let pool = Pool::new(alloc, free, room)?;

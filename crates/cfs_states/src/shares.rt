@@ -7,7 +7,7 @@ ghost use Rattle.cfs_block.specs.MemoryBlocks.{seen_of};
 ghost use Rattle.cfs_plan.specs.Files.{files_of};
 ghost use Rattle.cfs_states.specs.Begins.{begun};
 ghost use Rattle.cfs_states.specs.Shares.{AreBelow, IsKnown, free_in, handed, views_of};
-ghost use Rattle.cfs_states.specs.Stored.{is_free};
+ghost use Rattle.cfs_states.specs.Stored.{is_free_block};
 
 use crate::files::owner_of;
 use crate::share::Share;
@@ -49,18 +49,14 @@ impl Shares {
 
     /// Hands a block to the record that it is tagged for, whose number `records` has by the inode
     /// number. A block without a tag is free.
-    fn hand_out(
-        &mut self,
-        records: &IndexMap<u64, u32>,
-        block: MemBlock,
-    ) -> Result<(), NoMemory>
+    fn hand_out(&mut self, records: &IndexMap<u64, u32>, block: MemBlock) -> Result<(), NoMemory>
         requires sure { IsSureBlock (seen_of block) }
         requires known { IsKnown records.now (seen_of block) }
         requires records { AreBelow (length self.old.of_records.items) records.now }
         ensures shares { OnOk result (views_of self.new ≡
             handed records.now (seen_of block ∷ []) 0 (views_of self.old)) }
         ensures free { OnOk result (free_in self.new ≡
-            free_in self.old ++ filter is_free (seen_of block ∷ [])) }
+            free_in self.old ++ filter is_free_block (block ∷ [])) }
         ensures count { length self.new.of_records.items ≡ length self.old.of_records.items }
     {
         let tag = block.tag_word();
@@ -87,7 +83,7 @@ impl Shares {
         ensures shares { OnOk result (views_of self.new ≡
             handed records.now (map seen_of blocks.items) 0 (views_of self.old)) }
         ensures free { OnOk result (free_in self.new ≡
-            free_in self.old ++ filter is_free (map seen_of blocks.items)) }
+            free_in self.old ++ filter is_free_block blocks.items) }
     {
         for block in blocks {
             self.hand_out(records, block)?;

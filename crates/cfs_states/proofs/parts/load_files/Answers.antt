@@ -4,6 +4,7 @@ use Rattle.std.specs.List.{range_with_len}
 use Rattle.std.specs.List.Sorted.{IsPermutation}
 use Rattle.std.proofs.lemmas.List.{length-map}
 use Rattle.cfs_block.specs.BlockImages.{BlockStep, IsSureBlock}
+use Rattle.cfs_block.specs.declared.mem_block.MemBlock.{MemBlock}
 use Rattle.cfs_block.specs.MemoryBlocks.{seen_of}
 use Rattle.cfs_pmem.specs.Images.{Seen, WordStep}
 use Rattle.cfs_active.specs.Memory.{words_seen}
@@ -13,10 +14,10 @@ use Rattle.cfs_states.specs.Loads.{sizes_in, states_in}
 use Rattle.cfs_states.specs.Parts.{free_of, regions_of, states_of}
 use Rattle.cfs_states.specs.Shares.{AreBelow, CanLoadShare, ShareView, free_in, handed, share_view}
 use Rattle.cfs_states.specs.Shares.{views_of}
-use Rattle.cfs_states.specs.Stored.{is_free, region_at, state_at}
+use Rattle.cfs_states.specs.Stored.{is_free_block, region_at, state_at}
 use Rattle.cfs_states.proofs.Known.{are-below}
-use Rattle.cfs_states.proofs.Made.{all-back, all-known, as-many, few-free, present-blocks}
-use Rattle.cfs_states.proofs.Made.{present-regions}
+use Rattle.cfs_states.proofs.Made.{all-back, all-known, as-many, few-free, free-seen}
+use Rattle.cfs_states.proofs.Made.{present-blocks, present-regions}
 use Rattle.cfs_states.proofs.Whole.{all-load, all-orders, all-regions, all-states, ordered_at}
 use Rattle.cfs_states.proofs.parts.load_files.Goals as goal
 
@@ -39,7 +40,7 @@ hand_out_all-requires-clause-records c =
 
 pub free_pool-requires : goal.free_pool-requires
 free_pool-requires c =
-    let few = few-free (λ free. seen_of free.block) seen_of c.hand_out_all.new.self.free.items
+    let few = few-free (λ free. free.block) is_free_block c.hand_out_all.new.self.free.items
     c.args.blocks.items (free_in c.in_ok-shares.shares) c.in_ok-hand_out_all.ensures.free
     c.in_ok-shares.ensures.free in
     omega (
@@ -107,11 +108,10 @@ returns-clause-all_regions c =
 
 pub returns-clause-free : goal.returns-clause-free
 returns-clause-free c =
-    let blocks = map seen_of c.args.blocks.items in
-    subst (λ (l : List (Seen BlockStep)).
-    IsPermutation l (map (λ one. seen_of one.block) c.in_ok-pool.pool.free))
+    subst (λ (l : List MemBlock). IsPermutation l (map (λ one. one.block) c.in_ok-pool.pool.free))
     (c.in_ok-hand_out_all.ensures.free
-    ∙ ap (λ (l : List (Seen BlockStep)). l ++ filter is_free blocks) c.in_ok-shares.ensures.free)
+    ∙ ap (λ (l : List MemBlock). l ++ filter is_free_block c.args.blocks.items)
+    c.in_ok-shares.ensures.free)
     c.in_ok-pool.ensures.free
 
 pub returns-clause-all_blocks : goal.returns-clause-all_blocks
@@ -120,7 +120,9 @@ returns-clause-all_blocks c =
     let sizes = map words_seen c.args.sizes.items in
     let blocks = map seen_of c.args.blocks.items in
     present-blocks files sizes blocks c.in_ok-records.records _ _ c.requires.stored
-    c.in_ok-records.ensures (returns-clause-free c)
+    c.in_ok-records.ensures
+    (free-seen seen_of (λ one. one.block) c.args.blocks.items c.in_ok-pool.pool.free
+    (returns-clause-free c))
     (returns-clause-states c
     ∙ ap (λ (n : ℕ). map (state_at files sizes blocks) (range_with_len 0 n))
     (sym (length-map c.args.sizes.items words_seen)))

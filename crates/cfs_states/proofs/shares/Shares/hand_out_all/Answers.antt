@@ -6,6 +6,7 @@ use Rattle.std.proofs.lemmas.Iterator.Consumers.{YieldsList-turn}
 use Rattle.cfs_block.specs.declared.mem_block.MemBlock.{MemBlock}
 use Rattle.cfs_block.specs.MemoryBlocks.{seen_of}
 use Rattle.cfs_states.specs.Shares.{AreBelow, IsKnown, views_of}
+use Rattle.cfs_states.specs.Stored.{is_free_block}
 use Rattle.cfs_states.proofs.Handed.{free-more, handed-nothing, handed-push}
 use Rattle.cfs_states.proofs.shares.Shares.hand_out_all.Goals as goal
 
@@ -35,7 +36,7 @@ pub loop-block-preserved : goal.loop-block-preserved
 loop-block-preserved c = record {
   shares = handed-push seen_of c.args.records.now c.loop-block.yielded c.in-Some.block _ _ _
       c.loop-block.invariant.shares c.in_ok-hand_out.ensures.shares;
-  free = free-more seen_of c.loop-block.yielded c.in-Some.block _ _ _
+  free = free-more is_free_block c.loop-block.yielded c.in-Some.block _ _ _
       c.loop-block.invariant.free c.in_ok-hand_out.ensures.free;
   count = c.hand_out.ensures.count ∙ c.loop-block.invariant.count;
 }
