@@ -139,7 +139,12 @@ fn what_is_no_file_is_none(rt: HostRuntime) -> Result<(), Fail> {
         // removed by a record of the journal, or a directory
         (
             "/a",
-            &[(RECORD, 1), (RECORD + 8, 2), (RECORD + 16, 1), (RECORD + 24, 2)],
+            &[
+                (RECORD, 1),
+                (RECORD + 8, 2),
+                (RECORD + 16, 1),
+                (RECORD + 24, 2),
+            ],
         ),
         ("/a", &[(160, 2), (SIZE, 0), (TAG, 0)]),
     ] {

@@ -1,5 +1,5 @@
 -- Lists whose elements follow the numbers.
-use Rattle.std.proofs.Common.{ℕ, suc, ◌+◌, ◌<◌, ◌≡◌, ◌∙◌, List, [], ◌∷◌, ◌++◌, length, map, take}
+use Rattle.std.proofs.Common.{ℕ, ◌+◌, ◌<◌, ◌≡◌, ◌∙◌, List, [], ◌∷◌, ◌++◌, length, map, take}
 use Rattle.std.proofs.Common.{get_or, refl, sym, ap, subst, arith}
 use Rattle.std.proofs.lemmas.List.{length-map, map-append, take_more}
 use Rattle.std.proofs.lemmas.List.FromFn.{map-range_with_len_more}
@@ -11,7 +11,7 @@ use Rattle.cfs_block.specs.declared.mem_block.MemBlock.{MemBlock}
 use Rattle.cfs_image.specs.Layout.{region_words}
 use Rattle.cfs_image.specs.Store.{IsSized, IsStore}
 use Rattle.cfs_pmem.specs.Images.{MemoryRegion, Seen, WordStep, words_of}
-use Rattle.cfs_gather_tests.specs.InOrder.{AreBlocksInOrder, AreRegionsInOrder, Follows}
+use Rattle.cfs_gather_tests.specs.InOrder.{AreBlocksInOrder, AreRegionsInOrder}
 
 -- the front of a list
 abbrev pub FollowsSoFar : {X : Type 0} → (X → ℕ) → (ℕ → ℕ) → ℕ → List X → ℕ → Type 0

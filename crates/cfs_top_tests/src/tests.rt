@@ -560,7 +560,11 @@ fn dump_prints_a_file_or_says_why_not(rt: HostRuntime) -> Result<(), Fail> {
         ("f", "/c", None, Some(1), Status::Output, ""),
     ] {
         let ended = dump(rt.alloc(), image, path, failing, write)?;
-        assert_eq!(rt; ended.output.as_slice(), expected.as_bytes(), "{image} {path}");
+        assert_eq!(rt;
+            ended.output.as_slice(),
+            expected.as_bytes(),
+            "{image} {path}"
+        );
         assert_eq!(rt; ended.status, status, "{image} {path}");
     }
     Ok(())

@@ -1,4 +1,4 @@
-use Rattle.std.proofs.Common.{◌≡◌, ◌+◌, ◌∙◌, arith}
+use Rattle.std.proofs.Common.{◌≡◌, ◌+◌, arith}
 use Rattle.cfs_block.specs.MemoryBlocks.{number_of}
 use Rattle.cfs_gather_tests.specs.InOrder.{block_device_of}
 use Rattle.cfs_gather_tests.proofs.Follows.{follows_more}

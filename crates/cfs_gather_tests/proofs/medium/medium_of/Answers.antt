@@ -1,4 +1,4 @@
-use Rattle.std.proofs.Common.{◌∙◌, arith, subst, sym}
+use Rattle.std.proofs.Common.{arith, subst}
 use Rattle.cfs_gather_tests.specs.InOrder.{AreBlocksInOrder, AreRegionsInOrder}
 use Rattle.cfs_gather_tests.proofs.Follows.{store_of}
 use Rattle.cfs_gather_tests.proofs.medium.medium_of.Goals as goal

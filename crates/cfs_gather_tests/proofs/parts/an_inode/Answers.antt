@@ -1,6 +1,6 @@
 use Rattle.std.proofs.Common.{◌≡◌, ◌<◌, [], ◌∷◌, length, get_or, sym, subst, lit<, refl}
 use Rattle.cfs_pmem.specs.declared.mem_region.MemRegion.{MemRegion}
-use Rattle.cfs_pmem.specs.Images.{IsSure, Seen, WordStep, words_of}
+use Rattle.cfs_pmem.specs.Images.{IsSure, words_of}
 use Rattle.cfs_pmem.proofs.ImageLemmas.{sure_began}
 use Rattle.cfs_gather_tests.proofs.parts.an_inode.Goals as goal
 
