@@ -102,6 +102,15 @@ fn a_file_is_what_a_mount_would_find(rt: HostRuntime) -> Result<(), Fail> {
     let cut = a_truncate(1, 1);
     let first = a_write(1, 3);
     let cut_last = a_truncate(2, 4);
+    // a write of 4096 zeros and two letters, which are in slot 1, over two blocks
+    let long = [
+        (SLOT_0, 1),
+        (SLOT_0 + 16, 2),
+        (SLOT_0 + 32, 8_590_135_297),
+        (SLOT_0 + 40, 1),
+        (SLOT_1 + 48, u64::from(u16::from_le_bytes(*b"hi"))),
+        (TAG + 4104, 131_074),
+    ];
     for (words, others, zeros, rest) in [
         (none, none, 0, "hello"),
         // the size counts, not what the block has
@@ -115,6 +124,7 @@ fn a_file_is_what_a_mount_would_find(rt: HostRuntime) -> Result<(), Fail> {
         (&wrote, none, 0, "hXYlo"),
         (&behind, none, 0, "hello\0XY"),
         (&cut, none, 0, "h"),
+        (&long, none, 4096, "hi"),
         // both, in order of their gates
         (&last, &cut, 0, "h\0\0XY"),
         (&first, &cut_last, 0, "helX"),
