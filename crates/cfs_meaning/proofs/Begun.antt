@@ -160,11 +160,13 @@ begun-one world ino rec shown may = record {
       (files-both (λ f. OfEachFile (AreApart f) world.files)
       (λ f. (f.ino ≢ ino) × (f.rec ≢ rec)) (λ f. OfEachFile (AreApart f) (world.files ++ new ∷ []))
       (λ f all other. files-joined (AreApart f) world.files (new ∷ []) all
-      (apart-new ino rec f other, tt)) world.files shown.apart may.other)
-      (files-joined (AreApart new) world.files (new ∷ [])
-      (files-map (λ g. (g.ino ≢ ino) × (g.rec ≢ rec)) (AreApart new)
-      (λ g other. new-apart ino rec g other) world.files may.other)
-      (itself-apart ino rec, tt), tt);
+      (apart-new ino rec f other, tt)) world.files shown.apart may.other) (
+        files-joined (AreApart new) world.files (new ∷ [])
+            (files-map (λ g. (g.ino ≢ ino) × (g.rec ≢ rec)) (AreApart new)
+            (λ g other. new-apart ino rec g other) world.files may.other)
+            (itself-apart ino rec, tt),
+        tt,
+      );
   placed = files-joined (IsPlaced world.drive) world.files (new ∷ []) shown.placed
       (new-placed world ino rec may, tt);
   equipped = files-joined IsFileEquipped world.files (new ∷ []) shown.equipped

@@ -322,17 +322,19 @@ file-well world node whole clear made_so =
       refl,
       subst (λ kind. OfEachFile (MayBegin world)
           (if is_directory kind then [] else new_file node.ino node.rec ∷ []))
-          (sym made_so.kind_is)
-          (record {
-            number = λ none. omega (arith, low, number, none);
-            low = below;
-            size = clear.words node.rec unused below;
-            clear = clear.clear node.rec unused below;
-            other = subst (λ n. OfEachFile (λ g. (g.ino ≢ n) × (g.rec ≢ node.rec)) world.files)
-                (sym number)
-                (others-apart (tree_of world.names.now).next node.rec world.files clear.numbers
-                (or_parts _ _ unused).1);
-          }, tt),
+          (sym made_so.kind_is) (
+            record {
+              number = λ none. omega (arith, low, number, none);
+              low = below;
+              size = clear.words node.rec unused below;
+              clear = clear.clear node.rec unused below;
+              other = subst (λ n. OfEachFile (λ g. (g.ino ≢ n) × (g.rec ≢ node.rec)) world.files)
+                  (sym number)
+                  (others-apart (tree_of world.names.now).next node.rec world.files clear.numbers
+                  (or_parts _ _ unused).1);
+            },
+            tt,
+          ),
     )
 
 opened-well : (world : World) (step : Result Opening NameRefusal) →

@@ -339,12 +339,15 @@ store-shown tree change tellable whole makes =
     (leave-weaker
     {P = λ w. (w.names.doubt ≡ y.names.doubt)
     × IsReady tree tree y.names.through y.names.records w}
-    (λ w holds. (ap (λ (v : World). v.names.doubt) holds.0, record {
-      storing = holds.1.0;
-      through_is = ap (λ (v : World). v.names.through) holds.0;
-      records_is = ap (λ (v : World). v.names.records) holds.0;
-      room = subst (λ (v : World). v.names.records < 64) holds.0 holds.1.1;
-    })) (λ v w q. q) (λ w e. e)
+    (λ w holds. (
+      ap (λ (v : World). v.names.doubt) holds.0,
+      record {
+        storing = holds.1.0;
+        through_is = ap (λ (v : World). v.names.through) holds.0;
+        records_is = ap (λ (v : World). v.names.records) holds.0;
+        room = subst (λ (v : World). v.names.records < 64) holds.0 holds.1.1;
+      },
+    )) (λ v w q. q) (λ w e. e)
     (close-when tree tree y.names.through y.names.records y.names.doubt)) (λ v.
     leave-then {Q = λ kept w. Records tree tree change kept (with_names (recorded change kept) w)}
     (leave-tries (λ w clear.

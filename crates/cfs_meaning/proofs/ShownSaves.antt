@@ -460,17 +460,18 @@ select-tries tree word total w room has =
         in
         let words : words_of it.new ≡ set (words_of old) 0 wanted = ap words_of it.ends in
         subst (λ e. HasRoomNow tree
-        (with_names (selected total true) (record w { drive = e }))) (sym it.drive_is)
-        ((table-changed tree w 0 it.new it.asked (selected total true w.names) wanted []
-        (omega arith) storing it.like refl refl cut
-        (subst (λ u. Selects wanted u (set tables 0 it.new)) (sym has.saving.unsure_is)
-        (select_stands tables total false it.new selects has.sure words (λ sure. called.1.sure)
-        called.1))
-        (behind_fresh held w.names.through total total [] number refl (sym none_left)
-        (λ images each.
-        select_loads tables total it.new selects has.sure called.1.sure words images each
-        ∙ told))).0,
-        omega arith)
+        (with_names (selected total true) (record w { drive = e }))) (sym it.drive_is) (
+          (table-changed tree w 0 it.new it.asked (selected total true w.names) wanted []
+              (omega arith) storing it.like refl refl cut
+              (subst (λ u. Selects wanted u (set tables 0 it.new)) (sym has.saving.unsure_is)
+              (select_stands tables total false it.new selects has.sure words (λ sure. called.1.sure)
+              called.1))
+              (behind_fresh held w.names.through total total [] number refl (sym none_left)
+              (λ images each.
+              select_loads tables total it.new selects has.sure called.1.sure words images each
+              ∙ told))).0,
+          omega arith,
+        )
     by-end false d it =
         let ends = set-ends false 0 wanted old it.new it.ends in
         let called = sets false 0 wanted old it.new low ends in
@@ -532,8 +533,10 @@ pub checkpoint-shown : (tree : Namespace) → MakesRoom tree
 checkpoint-shown tree =
     leave-look (λ x.
     if-room (nat_lt (x.names.through + x.names.records) 9223372036854775808) (λ fits.
-    record { by = λ old end new holds way. known x fits (subst (IsStoring tree tree) holds.0 holds.1)
-        old end new holds.0 way }))
+    record {
+      by = λ old end new holds way. known x fits (subst (IsStoring tree tree) holds.0 holds.1)
+          old end new holds.0 way;
+    }))
   where
     known : (x : World) →
         nat_lt (x.names.through + x.names.records) 9223372036854775808 ≡ true →
