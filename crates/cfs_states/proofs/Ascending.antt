@@ -1,6 +1,6 @@
 -- Lists whose numbers ascend are one where they have the same members.
-use Rattle.std.proofs.Common.{◌≡◌, ◌≢◌, ◌∙◌, ℕ, zero, suc, ◌+◌, ◌<◌, ◌≤◌, inl, inr, nat_eq}
-use Rattle.std.proofs.Common.{List, [], ◌∷◌, length, map, get_or, arith, refl, sym, ap, subst}
+use Rattle.std.proofs.Common.{◌≡◌, ◌∙◌, ℕ, zero, suc, ◌+◌, ◌<◌, ◌≤◌, inl, inr, nat_eq}
+use Rattle.std.proofs.Common.{List, [], ◌∷◌, length, map, get_or, arith, refl, sym, ap}
 use Rattle.std.specs.List.{IsDistinct}
 use Rattle.std.specs.List.Sorted.{IsNonDecreasingBy, IsPermutation}
 use Rattle.std.specs.Cmp.{nat_eq_equiv, unsigned_Decides}

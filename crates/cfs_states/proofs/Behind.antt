@@ -1,39 +1,36 @@
 -- Behind a mount's work on the devices all files are stored.
-use Rattle.std.proofs.Common.{◌≡◌, ◌≢◌, ◌∙◌, ℕ, zero, suc, ◌+◌, ◌-◌, ◌*◌, ◌/◌, ◌%◌, ◌<◌, ◌≤◌, ◌⊎◌, ◌^◌}
-use Rattle.std.proofs.Common.{inl, inr, Bool, true, false, Option, Some, None, List, [], ◌∷◌, length}
-use Rattle.std.proofs.Common.{map, get_or, set, take, drop, arith, refl, sym, ap, subst}
+use Rattle.std.proofs.Common.{◌≡◌, ◌≢◌, ◌∙◌, ℕ, zero, suc, ◌+◌, ◌-◌, ◌/◌, ◌%◌, ◌<◌, ◌≤◌, ◌^◌}
+use Rattle.std.proofs.Common.{inl, inr, Bool, true, None, List, [], ◌∷◌, length}
+use Rattle.std.proofs.Common.{map, get_or, set, drop, arith, sym, ap, subst}
 use Rattle.std.proofs.Common.{if◌then◌else◌}
-use Rattle.std.specs.Prelude.{◌==◌, ◌&&◌, is_none, nat_le, nat_lt, unwrap_or}
+use Rattle.std.specs.Prelude.{◌==◌, is_none, nat_le, nat_lt, unwrap_or}
 use Rattle.std.specs.List.{All, Contains, range_with_len}
-use Rattle.std.proofs.lemmas.Bool.{cases_lt, eqb-true, leb-true}
+use Rattle.std.proofs.lemmas.Bool.{cases_lt, leb-true}
 use Rattle.std.proofs.lemmas.Bool.Decides.{nat_tests}
 use Rattle.std.proofs.lemmas.List.{get_or_default, get_or-drop, get_or-map, get_or-set_same}
 use Rattle.std.proofs.lemmas.List.{get_or-take, get_or_past, length-drop, length-map, length-take}
-use Rattle.std.proofs.lemmas.List.{same_lists}
 use Rattle.std.proofs.lemmas.List.Elements.{All-contains_itself}
-use Rattle.cfs_file.specs.declared.sizes.TheConstants.{FILE_BLOCKS, LONGEST_FILE}
+use Rattle.cfs_file.specs.declared.sizes.TheConstants.{LONGEST_FILE}
 use Rattle.cfs_core.proofs.Legal.{both}
 use Rattle.cfs_core.proofs.Order.{same_or_not}
 use Rattle.cfs_pmem.specs.Images.{IsImage, IsSure, Seen, WordStep, words_of}
 use Rattle.cfs_pmem.specs.Objects.{IsEachImage, seen_at}
 use Rattle.cfs_block.specs.BlockImages.{BlockStep, Content, IsSureBlock, content_of}
 use Rattle.cfs_dir.specs.declared.node.Node.{Node}
-use Rattle.cfs_dir.specs.Tree.{IsTree}
 use Rattle.cfs_home.specs.Calls.{size_in}
 use Rattle.cfs_home.specs.Disks.{Disk, File, IsReady, part_of, recovered_in}
 use Rattle.cfs_home.specs.Parts.{SomeTouches}
 use Rattle.cfs_image.specs.Checks.{Check, check, damage_of}
-use Rattle.cfs_medium.proofs.Has.{Has, contains-had, has-contained}
+use Rattle.cfs_medium.proofs.Has.{has-contained}
 use Rattle.cfs_medium.specs.Depicts.{content_at}
-use Rattle.cfs_medium.specs.Store.{byte_in, tag_of}
+use Rattle.cfs_medium.specs.Store.{byte_in}
 use Rattle.cfs_plan.proofs.Found.{tag-free}
 use Rattle.cfs_plan.proofs.Members.{find-none, has-range}
 use Rattle.cfs_plan.proofs.Plans.{size-at}
 use Rattle.cfs_plan.proofs.TreeFiles.{all-has, file-is, file-node}
 use Rattle.cfs_plan.specs.Files.{files_of}
 use Rattle.cfs_recover.proofs.Only.{have-sure, words-now}
-use Rattle.cfs_replay.specs.Plans.{IsBroughtHome, IsTagKept, IsTagOrFree}
-use Rattle.cfs_replay.specs.Reading.{words_at}
+use Rattle.cfs_replay.specs.Plans.{IsBroughtHome, IsTagOrFree}
 use Rattle.cfs_survey.proofs.FirstFaults.{holds_at, passed, sound_parts}
 use Rattle.cfs_survey.specs.Tags.{block_of, is_block_tag, is_file, own_checks, tag_at, tag_checks}
 use Rattle.cfs_survey.specs.Tags.{tags_checks}

@@ -17,7 +17,6 @@ use Rattle.cfs_survey.specs.Mapped.{BlockMap}
 use Rattle.cfs_states.specs.declared.share.Share.{Share}
 use Rattle.cfs_states.specs.Shares.{IsKnown, ShareView, handed, is_at, mapped_of, record_of}
 use Rattle.cfs_states.specs.Shares.{share_at, share_view, with_mapped}
-use Rattle.cfs_states.specs.Stored.{is_free}
 
 abbrev Block : Type 0
 Block = Seen BlockStep

@@ -1,8 +1,8 @@
 -- Blocks of a stored store by their records.
-use Rattle.std.proofs.Common.{◌≡◌, ◌≢◌, ◌∙◌, ℕ, zero, suc, ◌+◌, ◌*◌, ◌/◌, ◌<◌, ◌≤◌, ◌⊎◌, inl, inr}
-use Rattle.std.proofs.Common.{Bool, true, false, cond, nat_eq, Option, Some, None, List, [], ◌∷◌, ◌++◌}
-use Rattle.std.proofs.Common.{length, map, get_or, arith, refl, sym, ap, subst, if◌then◌else◌}
-use Rattle.std.specs.Prelude.{◌==◌, ◌&&◌, not, filter, find}
+use Rattle.std.proofs.Common.{◌≡◌, ◌≢◌, ◌∙◌, ℕ, ◌/◌, ◌<◌, inl, inr}
+use Rattle.std.proofs.Common.{Bool, true, false, cond, nat_eq, Option, Some, None, List, [], ◌∷◌}
+use Rattle.std.proofs.Common.{map, arith, refl, sym, ap, subst, if◌then◌else◌}
+use Rattle.std.specs.Prelude.{◌==◌, filter, find}
 use Rattle.std.specs.HashMap.{get}
 use Rattle.std.specs.List.{All, Contains}
 use Rattle.std.specs.Option.{option_map, option_map_or}
@@ -10,18 +10,17 @@ use Rattle.std.proofs.lemmas.Bool.{cases_Bool, eqb-true}
 use Rattle.std.proofs.lemmas.Bool.Decides.{nat_tests}
 use Rattle.std.proofs.lemmas.List.Elements.{All-contains, All-head, All-tail, All-weaker}
 use Rattle.cfs_file.specs.declared.sizes.TheConstants.{FILE_BLOCKS}
-use Rattle.cfs_pmem.specs.Images.{Seen, WordStep}
+use Rattle.cfs_pmem.specs.Images.{Seen}
 use Rattle.cfs_block.specs.BlockImages.{BlockStep, content_of}
 use Rattle.cfs_core.proofs.Order.{same_or_not}
 use Rattle.cfs_home.specs.Disks.{AreFiles, File}
 use Rattle.cfs_medium.proofs.Has.{Has, contains-had, has-contained}
 use Rattle.cfs_medium.specs.Store.{tag_of}
-use Rattle.cfs_plan.proofs.Members.{find-has, find-none, has-find}
 use Rattle.cfs_plan.specs.Files.{IsRecordMap, file_with}
 use Rattle.cfs_survey.specs.Mapped.{BlockMap}
 use Rattle.cfs_states.specs.Shares.{AreBelow, IsKnown, is_at, is_of, mapped_of, record_of, share_at}
 use Rattle.cfs_states.specs.Shares.{share_of}
-use Rattle.cfs_states.specs.Stored.{AreStored, IsTagAmong, file_at, is_free}
+use Rattle.cfs_states.specs.Stored.{IsTagAmong, file_at, is_free}
 use Rattle.cfs_states.proofs.Mapped.{IsTagBelow, find-tests, of-true, true-of}
 
 abbrev Block : Type 0

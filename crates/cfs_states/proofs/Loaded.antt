@@ -1,31 +1,29 @@
 -- A stored file has a fresh core, and its state stands for it.
-use Rattle.std.proofs.Common.{◌≡◌, ◌∙◌, ℕ, ◌+◌, ◌*◌, ◌<◌, ◌≤◌, inl, inr, Bool, true, false, nat_lt}
-use Rattle.std.proofs.Common.{if◌then◌else◌, cond, Option, Some, None, List, [], ◌∷◌, length, map}
-use Rattle.std.proofs.Common.{get_or, arith, refl, sym, ap, subst}
+use Rattle.std.proofs.Common.{◌≡◌, ◌∙◌, ℕ, ◌<◌, ◌≤◌, inl, inr, Bool, true, nat_lt}
+use Rattle.std.proofs.Common.{Option, Some, None, List, [], ◌∷◌, length, map}
+use Rattle.std.proofs.Common.{arith, refl, sym, ap}
 use Rattle.std.specs.Prelude.{◌==◌, find, is_some}
-use Rattle.std.specs.List.{All, Contains, range_with_len}
+use Rattle.std.specs.List.{Contains}
 use Rattle.std.specs.Option.{option_map}
 use Rattle.std.proofs.lemmas.Bool.{cases_Bool, cases_lt}
 use Rattle.std.proofs.lemmas.Bool.Decides.{nat_tests}
 use Rattle.std.proofs.lemmas.List.Elements.{All-contains}
 use Rattle.std.proofs.lemmas.List.FromFn.{length-map-range_with_len}
-use Rattle.cfs_file.specs.declared.sizes.TheConstants.{BLOCK_LEN, FILE_BLOCKS, LONGEST_FILE}
-use Rattle.cfs_core.specs.declared.flag.Flag.{Flag}
-use Rattle.cfs_core.specs.declared.flag.Flag.TheVariants.{Off}
+use Rattle.cfs_file.specs.declared.sizes.TheConstants.{FILE_BLOCKS, LONGEST_FILE}
 use Rattle.cfs_core.specs.declared.inode_core.Core.{Core}
 use Rattle.cfs_core.specs.Fresh.{IsFresh}
 use Rattle.cfs_core.specs.Words.{flag_of}
-use Rattle.cfs_pmem.specs.Images.{IsSure, Seen, WordStep, words_of}
+use Rattle.cfs_pmem.specs.Images.{Seen, WordStep}
 use Rattle.cfs_pmem.specs.Objects.{seen_at}
 use Rattle.cfs_block.specs.BlockImages.{BlockStep, Content, content_of}
 use Rattle.cfs_medium.specs.Store.{block_for, byte_in, entry_at, tag_of}
-use Rattle.cfs_home.specs.Disks.{AllStay, Disk, File, IsReady, part_of}
-use Rattle.cfs_home.specs.Ends.{IsDrained, IsLoaded}
+use Rattle.cfs_home.specs.Disks.{AllStay, Disk, File, IsReady}
+use Rattle.cfs_home.specs.Ends.{IsLoaded}
 use Rattle.cfs_home.proofs.Ends.{loaded-blocks, loaded-fresh, loaded-there}
-use Rattle.cfs_inode.specs.New.{HasFile, IsStored, MappedSeen, seen_for}
+use Rattle.cfs_inode.specs.New.{HasFile, IsStored, seen_for}
 use Rattle.cfs_inode.proofs.News.{stored-stands}
-use Rattle.cfs_states.specs.Laws.{StandsStored, StoredStatesStand}
-use Rattle.cfs_states.specs.Stored.{AreStored, bytes_in, mapped_in, size_word, tagged_for}
+use Rattle.cfs_states.specs.Laws.{StoredStatesStand}
+use Rattle.cfs_states.specs.Stored.{AreStored, mapped_in, size_word}
 use Rattle.cfs_states.proofs.Mapped.{in-for, in-mapped, past-for}
 
 abbrev Block : Type 0

@@ -1,23 +1,23 @@
 -- The blocks of a file, in either order.
-use Rattle.std.proofs.Common.{◌≡◌, ◌≢◌, ◌∙◌, ℕ, zero, suc, ◌+◌, ◌-◌, ◌*◌, ◌/◌, ◌%◌, ◌<◌, ◌≤◌, ◌⊎◌}
-use Rattle.std.proofs.Common.{inl, inr, Bool, true, false, if◌then◌else◌, cond, Option, Some, None}
+use Rattle.std.proofs.Common.{◌≡◌, ◌≢◌, ◌∙◌, ℕ, zero, suc, ◌+◌, ◌-◌, ◌/◌, ◌%◌, ◌<◌, ◌≤◌, ◌⊎◌}
+use Rattle.std.proofs.Common.{inl, inr, Bool, true, false, cond, Option, Some, None}
 use Rattle.std.proofs.Common.{List, [], ◌∷◌, length, map, get_or, arith, refl, sym, ap, subst}
-use Rattle.std.specs.Prelude.{◌==◌, ◌&&◌, not, filter, find}
+use Rattle.std.specs.Prelude.{◌==◌, filter, find}
 use Rattle.std.specs.List.{All, cons_option, filter_map, range_with_len}
 use Rattle.std.specs.List.Sorted.{IsPermutation}
 use Rattle.std.specs.Option.{option_map}
 use Rattle.std.proofs.lemmas.Bool.{cases_Bool, eqb-true}
 use Rattle.std.proofs.lemmas.Bool.Decides.{nat_tests}
 use Rattle.std.proofs.lemmas.List.Elements.{All-head, All-tail}
-use Rattle.std.proofs.lemmas.List.Sorted.{IsPermutation-cons, IsPermutation-refl}
+use Rattle.std.proofs.lemmas.List.Sorted.{IsPermutation-cons}
 use Rattle.std.proofs.lemmas.List.Sorted.{IsPermutation-trans}
 use Rattle.cfs_file.specs.declared.sizes.TheConstants.{FILE_BLOCKS}
 use Rattle.cfs_pmem.specs.Images.{Seen}
-use Rattle.cfs_block.specs.BlockImages.{BlockStep, Content, IsSureBlock, content_of}
+use Rattle.cfs_block.specs.BlockImages.{BlockStep, IsSureBlock, content_of}
 use Rattle.cfs_core.proofs.Order.{same_or_not}
 use Rattle.cfs_medium.proofs.Has.{Has, contains-had}
 use Rattle.cfs_medium.specs.Store.{tag_of}
-use Rattle.cfs_inode.specs.New.{AreMapped, IsMapped, MappedSeen, seen_for}
+use Rattle.cfs_inode.specs.New.{AreMapped, MappedSeen, seen_for}
 use Rattle.cfs_states.specs.Shares.{is_of, mapped_of, share_of}
 use Rattle.cfs_states.specs.Stored.{AreOnce, mapped_at, mapped_in, tagged_for}
 use Rattle.cfs_states.proofs.Ranges.{filter_map-agree, filter_map-more, same-order}

@@ -8,7 +8,7 @@ use Rattle.std.proofs.lemmas.Bool.{cases_Bool}
 use Rattle.cfs_dir.specs.declared.node.Node.{Node}
 use Rattle.cfs_dir.specs.Namespace.{is_directory}
 use Rattle.cfs_home.specs.Disks.{File}
-use Rattle.cfs_plan.specs.Files.{file_in, files_of}
+use Rattle.cfs_plan.specs.Files.{files_of}
 use Rattle.cfs_states.specs.Begins.{owner_at}
 use Rattle.cfs_states.specs.Stored.{file_at}
 

@@ -1,11 +1,10 @@
 -- The states of all files, the other size regions and the free blocks are the whole store.
-use Rattle.std.proofs.Common.{◌≡◌, ◌∙◌, ℕ, zero, suc, ◌+◌, ◌<◌, ◌≤◌, inl, inr, Option, Some, None}
+use Rattle.std.proofs.Common.{◌≡◌, ◌∙◌, ℕ, zero, suc, ◌+◌, ◌<◌, Option, Some, None}
 use Rattle.std.proofs.Common.{List, [], ◌∷◌, ◌++◌, length, map, get_or, arith, refl, sym, ap, subst}
 use Rattle.std.specs.Prelude.{filter}
 use Rattle.std.specs.List.{All, Contains, cons_option, filter_map, flat_map, range_with_len}
 use Rattle.std.specs.List.Sorted.{IsPermutation}
 use Rattle.std.specs.Option.{option_map, option_map_or}
-use Rattle.std.proofs.lemmas.List.{get_or-map, length-map}
 use Rattle.std.proofs.lemmas.List.Concat.{flat_map-cons}
 use Rattle.std.proofs.lemmas.List.Elements.{All-contains}
 use Rattle.std.proofs.lemmas.List.FromFn.{fill_by_all, length-map-range_with_len}
@@ -14,7 +13,7 @@ use Rattle.std.proofs.lemmas.List.Sorted.{IsPermutation-append_right, IsPermutat
 use Rattle.std.proofs.lemmas.List.Sorted.{IsPermutation-map, IsPermutation-middle}
 use Rattle.std.proofs.lemmas.List.Sorted.{IsPermutation-refl, IsPermutation-sym}
 use Rattle.std.proofs.lemmas.List.Sorted.{IsPermutation-trans}
-use Rattle.cfs_pmem.specs.Images.{Seen, WordStep, words_of}
+use Rattle.cfs_pmem.specs.Images.{Seen, WordStep}
 use Rattle.cfs_pmem.specs.Objects.{seen_at}
 use Rattle.cfs_block.specs.BlockImages.{BlockStep}
 use Rattle.cfs_gather.specs.Seens.{blocks_in_active, seens_in_active}
@@ -23,11 +22,11 @@ use Rattle.cfs_inode.specs.New.{MappedSeen}
 use Rattle.cfs_active.specs.View.{ActiveView}
 use Rattle.cfs_plan.specs.Files.{IsRecordMap}
 use Rattle.cfs_survey.specs.Mapped.{BlockMap}
-use Rattle.cfs_states.specs.Begins.{begun, owner_at}
+use Rattle.cfs_states.specs.Begins.{begun}
 use Rattle.cfs_states.specs.Loads.{AreOrders, states_by}
-use Rattle.cfs_states.specs.Shares.{CanLoadOf, CanLoadShare, IsKnown, IsOrderIn, IsOrderOfShare}
+use Rattle.cfs_states.specs.Shares.{CanLoadOf, CanLoadShare, IsOrderIn}
 use Rattle.cfs_states.specs.Shares.{ShareView, handed, is_at, mapped_of, region_of, share_at}
-use Rattle.cfs_states.specs.Shares.{is_of, loaded_as, share_of, state_of, with_mapped}
+use Rattle.cfs_states.specs.Shares.{is_of, loaded_as, with_mapped}
 use Rattle.cfs_states.specs.Stored.{AreStored, file_at, is_free, loaded_view, mapped_in, none_or}
 use Rattle.cfs_states.specs.Stored.{region_at, state_at}
 use Rattle.cfs_states.proofs.Begins.{begun-range, begun_at}

@@ -1,5 +1,5 @@
 -- The parts that are made of a stored store.
-use Rattle.std.specs.Prelude.{ℕ, Option, List, map}
+use Rattle.std.specs.Prelude.{Option, List, map}
 use Rattle.std.specs.List.{filter_map}
 use Rattle.std.specs.Option.{option_map}
 use Rattle.cfs_pmem.specs.Images.{Seen, WordStep}

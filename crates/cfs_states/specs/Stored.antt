@@ -1,6 +1,6 @@
 -- A store of which nothing is pending: each file's size and blocks stand, and are known. And what
 -- each record has there.
-use Rattle.std.specs.Prelude.{ℕ, ◌+◌, ◌<◌, ◌≤◌, ◌≡◌, ◌≢◌, ◌==◌, ◌^◌, ◌⊎◌, Bool, Option, Some, None, List, []}
+use Rattle.std.specs.Prelude.{ℕ, ◌<◌, ◌≤◌, ◌≡◌, ◌≢◌, ◌==◌, ◌^◌, ◌⊎◌, Bool, Option, Some, None, List, []}
 use Rattle.std.specs.Prelude.{find, get_or, length, map}
 use Rattle.std.specs.List.{All, Contains, filter_map, range_with_len}
 use Rattle.std.specs.Option.{option_map}

@@ -1,5 +1,3 @@
-use Rattle.cfs_states.proofs.Ascending.{sorted-same}
-use Rattle.cfs_states.proofs.Mapped.{in-share}
 use Rattle.cfs_states.proofs.Loaded.{stored-core}
 use Rattle.cfs_states.proofs.laws.stored_states_stand.Goals as goal
 

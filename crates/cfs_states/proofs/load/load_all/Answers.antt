@@ -1,4 +1,3 @@
-use Rattle.std.proofs.Common.{◌∙◌, ap, length, map, sym, subst, ◌∷◌, ◌++◌, [], List, ℕ}
 use Rattle.cfs_states.specs.Loads.{sizes_in, states_in}
 use Rattle.cfs_states.specs.Shares.{share_view}
 use Rattle.cfs_states.proofs.Orders.{loaded-more, regions-more}

@@ -1,17 +1,13 @@
-use Rattle.std.proofs.Common.{◌≡◌, ◌∙◌, ◌++◌, ap, arith, length, map, subst, sym, List, ℕ}
+use Rattle.std.proofs.Common.{◌∙◌, ◌++◌, ap, arith, length, map, subst, sym, List, ℕ}
 use Rattle.std.specs.Prelude.{filter}
 use Rattle.std.specs.List.{range_with_len}
 use Rattle.std.specs.List.Sorted.{IsPermutation}
 use Rattle.std.proofs.lemmas.List.{length-map}
-use Rattle.cfs_block.specs.BlockImages.{BlockStep, IsSureBlock}
+use Rattle.cfs_block.specs.BlockImages.{IsSureBlock}
 use Rattle.cfs_block.specs.declared.mem_block.MemBlock.{MemBlock}
 use Rattle.cfs_block.specs.MemoryBlocks.{seen_of}
-use Rattle.cfs_pmem.specs.Images.{Seen, WordStep}
 use Rattle.cfs_active.specs.Memory.{words_seen}
 use Rattle.cfs_plan.specs.Files.{files_of}
-use Rattle.cfs_states.specs.Begins.{begun}
-use Rattle.cfs_states.specs.Loads.{sizes_in, states_in}
-use Rattle.cfs_states.specs.Parts.{free_of, regions_of, states_of}
 use Rattle.cfs_states.specs.Shares.{AreBelow, CanLoadShare, ShareView, free_in, handed, share_view}
 use Rattle.cfs_states.specs.Shares.{views_of}
 use Rattle.cfs_states.specs.Stored.{is_free_block, region_at, state_at}

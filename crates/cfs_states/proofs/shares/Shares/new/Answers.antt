@@ -1,4 +1,4 @@
-use Rattle.std.proofs.Common.{◌≡◌, ◌∙◌, ap, length, map, arith, sym, List, ◌∷◌, ◌++◌, [], ℕ}
+use Rattle.std.proofs.Common.{◌≡◌, ◌∙◌, ap, length, map, arith, List, []}
 use Rattle.cfs_active.specs.Memory.{words_seen}
 use Rattle.cfs_plan.specs.Files.{files_of}
 use Rattle.cfs_states.specs.Begins.{owner_at}
