@@ -24,3 +24,6 @@ pub use read::read_image;
 pub use refusal::ImageRefusal;
 pub use version::Version;
 pub use write::write_image;
+
+#[cfg(test)]
+mod tests;

@@ -15,7 +15,7 @@ use Rattle.cfs_meaning.specs.Shown.{AttemptsBlock, AttemptsWords, ShowsBlock, Sh
 
 -- ---- one list behind another
 
-abbrev go-on : List Op → Attempt → Attempt
+abbrev pub go-on : List Op → Attempt → Attempt
 go-on ops it = if it.whole then attempt ops it.drive else it
 
 behind-one : (xs ys : List Op) (op : Op) (drive : Drive) (test : Bool) →
@@ -28,7 +28,7 @@ behind-one : (xs ys : List Op) (op : Op) (drive : Drive) (test : Bool) →
 behind-one xs ys op drive true same = same
 behind-one xs ys op drive false same = refl
 
-attempt-append : (xs ys : List Op) (drive : Drive) →
+pub attempt-append : (xs ys : List Op) (drive : Drive) →
     attempt (xs ++ ys) drive ≡ go-on ys (attempt xs drive)
 unfolding attempt
 attempt-append [] ys drive = refl
@@ -81,7 +81,7 @@ part-answers {its_asks = its_asks} {place = place} part o asked seen allowed is 
     ∙ sym is
 
 -- the newest operation stands last in order
-in-order : {O : Type 0} (inject : O → Op) (o : O) (before : List O) →
+pub in-order : {O : Type 0} (inject : O → Op) (o : O) (before : List O) →
     map inject (reverse (o ∷ before)) ≡ map inject (reverse before) ++ inject o ∷ []
 in-order inject o before =
     ap (map inject) (reverse-append (o ∷ []) before)

@@ -9,6 +9,7 @@ use Rattle.cfs_meaning.specs.Drive.{Op}
 use Rattle.cfs_meaning.specs.World.{File, World, empty_core}
 use Rattle.cfs_meaning.specs.Laws.{OfEachCore}
 use Rattle.cfs_meaning.specs.Granted.{OfEachOpen}
+use Rattle.cfs_meaning.specs.Stock.{AreMappedOnce}
 use Rattle.cfs_meaning.specs.Ways.{Changes, Fault, Halt, Mends, Now, Repeats, Says, Shrugs, Tries, Waits, Way, choose, each, end_with, give, known, never, only_if, refuse_if, say, steps, unless_fault, when, ◌>>=◌}
 
 -- no core is one that a crash left
@@ -29,6 +30,7 @@ pub record IsQuiet (old new : World) : Type 1 where
   pub queues : length new.queues ≡ length old.queues
   pub opened : (P : ℕ → ℕ → Grant → Type 0) → OfEachOpen P old.callers → OfEachOpen P new.callers
   pub uncrashed : AreUncrashed old.files → AreUncrashed new.files
+  pub mapped : AreMappedOnce old → AreMappedOnce new
 
 -- what a line may say before its end: no bytes, and nothing of faults and of the power
 abbrev pub IsSaid : Printed → Type 0

@@ -44,14 +44,14 @@ new_list queues = map new_words (range_with_len 0 (region_count queues))
 list-long : (queues : ℕ) → length (new_list queues) ≡ region_count queues
 list-long queues = length-map-range_with_len new_words 0 (region_count queues)
 
-regions-long : (count queues : ℕ) →
+pub regions-long : (count queues : ℕ) →
     length (new_drive count queues).regions ≡ region_count queues
 regions-long count queues =
     length-map (enumerate_from 0 (new_list queues))
     (λ (w : ℕ × List ℕ). regions.began w.0 w.1)
     ∙ length-enumerate_from 0 (new_list queues) ∙ list-long queues
 
-region-new : (count queues k : ℕ) (d : Seen WordStep) → k < region_count queues →
+pub region-new : (count queues k : ℕ) (d : Seen WordStep) → k < region_count queues →
     get_or (new_drive count queues).regions k d ≡ regions.began k (new_words k)
 region-new count queues k d low =
     let long = list-long queues in
@@ -97,7 +97,7 @@ each-region P count queues all = λ k d low.
     let long = regions-long count queues in
     subst P (sym (region-new count queues k d (omega (arith, low, long)))) (all k)
 
-each-block : (P : Seen BlockStep → Type 0) (count queues : ℕ) →
+pub each-block : (P : Seen BlockStep → Type 0) (count queues : ℕ) →
     ((number : ℕ) → P (blocks.began number new_content)) → All P (new_drive count queues).blocks
 each-block P count queues all = λ k d low.
     let long = blocks-long count queues in
@@ -106,10 +106,10 @@ each-block P count queues all = λ k d low.
 
 -- ---- size words
 
-abbrev zeros : ℕ → List ℕ
+abbrev pub zeros : ℕ → List ℕ
 zeros n = replicate n 0
 
-size-words : (rec : ℕ) → rec < 256 → new_words (67 + rec) ≡ 0 ∷ []
+pub size-words : (rec : ℕ) → rec < 256 → new_words (67 + rec) ≡ 0 ∷ []
 size-words rec low =
     ap (λ front. front ++ zeros (region_words (67 + rec) - length front)) no_front
     ∙ ap (λ n. zeros (n - 0)) one
@@ -120,7 +120,7 @@ size-words rec low =
     one : region_words (67 + rec) ≡ 1
     one = grind (arith, nat_tests)
 
-new-size : (count queues rec : ℕ) → rec < 256 →
+pub new-size : (count queues rec : ℕ) → rec < 256 →
     HasWord (new_drive count queues) (size_word rec)
 new-size count queues rec low = record {
   within = (let long = regions-long count queues in omega (arith, low, long));
@@ -134,7 +134,7 @@ new-size count queues rec low = record {
 
 -- ---- the tree
 
-abbrev new_tree : Namespace
+abbrev pub new_tree : Namespace
 new_tree = record { nodes = root_of 511 0 0 ∷ []; next = 2 }
 
 no-nodes : (n rec m : ℕ) → nodes_in n rec (zeros m) ≡ []
@@ -169,28 +169,30 @@ table-new =
     ∙ root-first 255 (zeros 3060)
     ∙ ap (λ nodes. root_of 511 0 0 ∷ nodes) (no-nodes 255 1 3060))
 
-none-above : (images : List (List ℕ)) → get_or images 0 [] ≡ zeros 16 →
+pub none-above : (images : List (List ℕ)) → get_or images 0 [] ≡ zeros 16 →
     changes_above 0 images ≡ []
 unfolding walk
 none-above images blank =
     ap (λ (words : List ℕ). map change_of
     (if gate_of words == 1 then words ∷ walk 63 1 images else [])) blank
 
+pub loads-new : (images : List (List ℕ)) → get_or images 0 [] ≡ new_words 0 →
+    get_or images 1 [] ≡ new_words 1 → loaded images ≡ record { tree = new_tree; through = 0 }
+loads-new images first second =
+    ap (λ words. selected (word_in words) images) first
+    ∙ ap (λ words. record { tree = table_in words; through = 0 }) second
+    ∙ ap (λ tree. record { tree = tree; through = 0 }) table-new
+
 recovers-new : (images : List (List ℕ)) → get_or images 0 [] ≡ new_words 0 →
     get_or images 1 [] ≡ new_words 1 → get_or images 3 [] ≡ new_words 3 →
     recovered images ≡ new_tree
 recovers-new images first second third =
-    ap (λ (x : Loaded). changed_by x.tree (changes_above x.through (drop 3 images))) loads
+    ap (λ (x : Loaded). changed_by x.tree (changes_above x.through (drop 3 images)))
+    (loads-new images first second)
     ∙ ap (changed_by new_tree)
     (none-above (drop 3 images) (get_or-drop 3 images 0 [] ∙ third))
-  where
-    loads : loaded images ≡ record { tree = new_tree; through = 0 }
-    loads =
-        ap (λ words. selected (word_in words) images) first
-        ∙ ap (λ words. record { tree = table_in words; through = 0 }) second
-        ∙ ap (λ tree. record { tree = tree; through = 0 }) table-new
 
-words-new : (count queues k : ℕ) → k < 67 →
+pub words-new : (count queues k : ℕ) → k < 67 →
     get_or (tree_words (new_drive count queues)) k [] ≡ new_words k
 words-new count queues k low =
     let long = regions-long count queues in
@@ -202,7 +204,7 @@ words-new count queues k low =
     (get_or-take 67 (new_drive count queues).regions k none low
     ∙ region-new count queues k none (omega (arith, low)))
 
-tree-new : (count queues : ℕ) → recovered_tree (new_drive count queues) ≡ new_tree
+pub tree-new : (count queues : ℕ) → recovered_tree (new_drive count queues) ≡ new_tree
 tree-new count queues =
     recovers-new (tree_words (new_drive count queues))
     (words-new count queues 0 (omega arith)) (words-new count queues 1 (omega arith))

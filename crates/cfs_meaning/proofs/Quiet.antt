@@ -18,7 +18,9 @@ use Rattle.cfs_meaning.specs.Inode.{with_passed, with_posted, with_size_unsure}
 use Rattle.cfs_meaning.specs.Files.{at_position, close_in, has_no_power, move_by, move_to, moved_by}
 use Rattle.cfs_meaning.specs.Names.{doubt_settled, recorded, selected, selector_settled}
 use Rattle.cfs_meaning.specs.Workers.{Item, once_more, pass_over, pass_over_all}
+use Rattle.cfs_meaning.specs.Stock.{HaveOwnKeys}
 use Rattle.cfs_meaning.proofs.Keeping.{AreUncrashed, IsQuiet}
+use Rattle.cfs_meaning.proofs.Keyed.{files-left, keys-left, keys-more, mapped-kept}
 
 -- ---- lists of files
 
@@ -214,8 +216,9 @@ file-kept world ino new same P empty all =
 
 pub quiet-file : (world : World) (ino : ℕ) (new : File) →
     ((P : ℕ → Core → Type 0) → Has P (file_in world ino) → Has P new) →
-    new.core.crashed ≡ (core_in world ino).crashed → IsQuiet world (with_file new world)
-quiet-file world ino new same up = record {
+    new.core.crashed ≡ (core_in world ino).crashed → new.blocks ≡ (file_in world ino).blocks →
+    IsQuiet world (with_file new world)
+quiet-file world ino new same up blocks = record {
   drive = refl;
   phase = refl;
   cores = file-kept world ino new same;
@@ -225,6 +228,7 @@ quiet-file world ino new same up = record {
   queues = refl;
   opened = λ P all. all;
   uncrashed = uncrashed-kept world ino new up;
+  mapped = λ all. mapped-kept world ino new (λ own. subst HaveOwnKeys (sym blocks) own) all;
 }
 
 pub quiet-same : (world : World) → IsQuiet world world
@@ -238,6 +242,7 @@ quiet-same world = record {
   queues = refl;
   opened = λ P all. all;
   uncrashed = λ all. all;
+  mapped = λ all. all;
 }
 
 pub quiet-back : (ino gate : ℕ) (world : World) → IsQuiet world (come_back ino gate world)
@@ -251,6 +256,7 @@ quiet-back ino gate world = record {
   queues = length-set world.queues (held_at (file_in world ino) gate).queue _;
   opened = λ P all. all;
   uncrashed = uncrashed-kept world ino _ refl;
+  mapped = λ all. mapped-kept world ino _ (λ own. own) all;
 }
 
 pub quiet-hold : (ino : ℕ) (h : Held) (world : World) → IsQuiet world (hold ino h world)
@@ -264,10 +270,12 @@ quiet-hold ino held world = record {
   queues = length-set world.queues held.queue _;
   opened = λ P all. all;
   uncrashed = uncrashed-kept world ino _ refl;
+  mapped = λ all. mapped-kept world ino _ (λ own. own) all;
 }
 
-quiet-take : (ino k b : ℕ) (world : World) → IsQuiet world (take_block ino k b world)
-quiet-take ino k b world = record {
+quiet-take : (ino k b : ℕ) (world : World) → is_none (block_of (file_in world ino) k) ≡ true →
+    IsQuiet world (take_block ino k b world)
+quiet-take ino k b world free = record {
   drive = refl;
   phase = refl;
   cores = file-kept world ino _ (λ P h. h);
@@ -277,16 +285,16 @@ quiet-take ino k b world = record {
   queues = refl;
   opened = λ P all. all;
   uncrashed = uncrashed-kept world ino _ refl;
+  mapped = λ all. mapped-kept world ino _ (λ own. keys-more k b _ free own) all;
 }
 
-quiet-if : (test : Bool) (world new : World) → IsQuiet world new →
-    IsQuiet world (if test then new else world)
-quiet-if true world new quiet = quiet
-quiet-if false world new quiet = quiet-same world
-
 pub quiet-map : (ino k b : ℕ) (world : World) → IsQuiet world (map_block ino k b world)
-quiet-map ino k b world =
-    quiet-if (is_none (block_of (file_in world ino) k)) world _ (quiet-take ino k b world)
+quiet-map ino k b world = by-test (is_none (block_of (file_in world ino) k)) refl
+  where
+    by-test : (test : Bool) → is_none (block_of (file_in world ino) k) ≡ test →
+        IsQuiet world (if test then take_block ino k b world else world)
+    by-test true is = quiet-take ino k b world is
+    by-test false is = quiet-same world
 
 pub quiet-give : (ino k b : ℕ) (world : World) → IsQuiet world (give_block ino k b world)
 quiet-give ino k b world = record {
@@ -299,20 +307,23 @@ quiet-give ino k b world = record {
   queues = refl;
   opened = λ P all. all;
   uncrashed = uncrashed-kept world ino _ refl;
+  mapped = λ all.
+      mapped-kept world ino _ (λ own. keys-left (λ x. not (x.0 == k)) _ own) all;
 }
 
 pub quiet-passed : (ino place n : ℕ) (world : World) →
     IsQuiet world (with_file (with_passed place n (file_in world ino)) world)
-quiet-passed ino place n world = quiet-file world ino _ (λ P h. h) refl
+quiet-passed ino place n world = quiet-file world ino _ (λ P h. h) refl refl
 
 clash : (b : Bool) → b ≡ true → b ≡ false → ⊥
 clash b is up = let wrong : true ≡ false = sym is ∙ up in absurd (cc)
 
 pub quiet-end : (ino : ℕ) (world : World) → IsQuiet world (end_core ino world)
-quiet-end ino world = quiet-file world ino _ (λ P h up. absurd (clash true refl up)) refl
+quiet-end ino world = quiet-file world ino _ (λ P h up. absurd (clash true refl up)) refl refl
 
 pub quiet-unsure : (ino : ℕ) (world : World) → IsQuiet world (with_size_unsure ino world)
-quiet-unsure ino world = quiet-file world ino _ (λ P h up. absurd (clash true refl up)) refl
+quiet-unsure ino world =
+    quiet-file world ino _ (λ P h up. absurd (clash true refl up)) refl refl
 
 pub quiet-gone : (test : File → Bool) (world : World) →
     IsQuiet world (record world { files = filter test world.files })
@@ -326,6 +337,7 @@ quiet-gone test world = record {
   queues = refl;
   opened = λ P all. all;
   uncrashed = uncrashed-left test world.files;
+  mapped = files-left (λ f. HaveOwnKeys f.blocks) test world.files;
 }
 
 -- none of a caller's descriptors is opened
@@ -343,6 +355,7 @@ quiet-descriptors c change world kept = record {
   queues = refl;
   opened = λ P all. own-changed P c change world.callers (kept P all) all;
   uncrashed = λ all. all;
+  mapped = λ all. all;
 }
 
 pub quiet-posted : (c fd place : ℕ) (world : World) →
@@ -367,6 +380,7 @@ quiet-queue q change world = record {
   queues = length-set world.queues q _;
   opened = λ P all. all;
   uncrashed = λ all. all;
+  mapped = λ all. all;
 }
 
 -- ---- the journal's part of the names
@@ -384,6 +398,7 @@ quiet-names change world base log now = record {
   queues = refl;
   opened = λ P all. all;
   uncrashed = λ all. all;
+  mapped = λ all. all;
 }
 
 pub quiet-settled : (world : World) → IsQuiet world (with_names selector_settled world)
@@ -441,6 +456,7 @@ quiet-then a b = record {
   queues = b.queues ∙ a.queues;
   opened = λ P all. b.opened P (a.opened P all);
   uncrashed = λ all. b.uncrashed (a.uncrashed all);
+  mapped = λ all. b.mapped (a.mapped all);
 }
 
 quiet-over : (x y : Item) (world : World) → IsQuiet world (pass_over x y world)

@@ -176,7 +176,7 @@ block-shown world ino k b seen core asked f found here full shows less shown = r
 
 -- ---- a job's block is mapped
 
-flag-off : (ino k : ℕ) → is_for ino k media.nothing ≡ false
+pub flag-off : (ino k : ℕ) → is_for ino k media.nothing ≡ false
 flag-off ino k = ne_eqb 0 (ino * 65536 + k + 1) (λ is. omega (arith, is))
 
 -- a file block that is tagged in every image has a block

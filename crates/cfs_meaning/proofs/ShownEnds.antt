@@ -72,16 +72,16 @@ use Rattle.cfs_meaning.proofs.TotalTrims.{core-given, find-replaced}
 
 -- ---- one operation on a region
 
-abbrev word_after : Bool → WordOp → Seen WordStep → Seen WordStep
+abbrev pub word_after : Bool → WordOp → Seen WordStep → Seen WordStep
 word_after true op seen = word_done op seen
 word_after false op seen = word_refused op seen
 
-abbrev IsOneWord : ℕ → WordOp → Drive → Attempt → Type 0
+abbrev pub IsOneWord : ℕ → WordOp → Drive → Attempt → Type 0
 IsOneWord r op drive it =
     (asked : List Asked)
     × (it.drive ≡ with_words r (word_after it.whole op (region_at drive r)) asked drive)
 
-one-word : (r : ℕ) (op : WordOp) (drive : Drive) →
+pub one-word : (r : ℕ) (op : WordOp) (drive : Drive) →
     IsOneWord r op drive (attempt (Word r op ∷ []) drive)
 unfolding attempt
 one-word r op drive = by-test (is_allowed (Word r op) drive)

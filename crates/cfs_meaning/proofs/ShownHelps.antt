@@ -49,7 +49,7 @@ help-all ino place = record { by = helped ino place }
 
 -- ---- a read that is served
 
-any-all : {A : Type 0} {next : World → Way A} →
+pub any-all : {A : Type 0} {next : World → Way A} →
     ((x : World) → Leaves AllWork (λ a. AllWork) AllWork (next x)) →
     Leaves AllWork (λ a. AllWork) AllWork (Now >>= next)
 any-all more =
@@ -72,7 +72,7 @@ clear-all ino place = any-all (λ x. by-verdict x (serve_verdict (core_in x ino)
     by-verdict x Absent = leave-give (λ w all. all)
     by-verdict x Ready = leave-give (λ w all. all)
 
-of-all : {A : Type 0} {way : Way A} →
+pub of-all : {A : Type 0} {way : Way A} →
     Leaves (λ w. IsShown w × AllWork w) (λ a. AllWork) AllWork way →
     Leaves AllWork (λ a. AllWork) AllWork way
 of-all one =
@@ -84,7 +84,7 @@ serve-all ino place =
     of-all (part-all (served-shown ino place)
     (leave-kept (kept-serve (law_of (reached_law 0)) ino place)) (open-serve ino place))
 
-drop-all : (ino place : ℕ) → Leaves AllWork (λ u. AllWork) AllWork (drop_read ino place)
+pub drop-all : (ino place : ℕ) → Leaves AllWork (λ u. AllWork) AllWork (drop_read ino place)
 drop-all ino place =
     of-all (part-all (dropped-shown ino place)
     (leave-kept (kept-drop (law_of (reached_law 0)) ino place)) (open-drop ino place))
@@ -128,7 +128,7 @@ posted-helps d place =
     (leave-weaker {P = AllWork} (λ w all. all) (λ a w all. all.shown) (λ w all. all.shown)
     (helped-all d.grant.ino place)) (λ bytes. said-shown d.grant.ino place bytes)))
 
-opened-all : (c fd : ℕ) → Leaves AllWork (λ d. AllWork) IsShown (opened c fd)
+pub opened-all : (c fd : ℕ) → Leaves AllWork (λ d. AllWork) IsShown (opened c fd)
 opened-all c fd =
     leave-look (λ x.
     leave-weaker {P = AllWork} (λ w holds. holds.1) (λ d w q. q.1) (λ w e. e)

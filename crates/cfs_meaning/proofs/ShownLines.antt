@@ -103,7 +103,7 @@ keep-plan device writing k =
 
 -- ---- lines that ask more of the world
 
-leave-up : {P : World → Type 0} {way : Way Printed} → ((w : World) → P w → IsShown w) →
+pub leave-up : {P : World → Type 0} {way : Way Printed} → ((w : World) → P w → IsShown w) →
     Leaves P (λ answer. IsShown) IsShown way → Leaves P (λ answer. IsShown) IsShown (up way)
 leave-up {P = P} {way = way} shows one =
     leave-then {Q = λ answer. IsShown}
@@ -172,7 +172,7 @@ keep-line line (forms.Fail device k) keeps other more = keep-told (keep-plan dev
 keep-line line (forms.FailRead device k) keeps other more = keep-told (keep-plan device false k)
 keep-line line form keeps other more = absurd (cc)
 
-shown-ends : (end : Result (Option Printed) Halt) (world : World) →
+pub shown-ends : (end : Result (Option Printed) Halt) (world : World) →
     IfEnds (λ answer. IsShown) IsShown end world → IsShown world
 shown-ends (Ok answer) world holds = holds
 shown-ends (Err halt) world holds = holds

@@ -1,8 +1,9 @@
 -- What is done to a file's devices ends no core.
-use Rattle.std.proofs.Common.{◌≡◌, ℕ, zero, suc, Bool, true, false, Option, Some, None, List}
-use Rattle.std.proofs.Common.{replicate, refl, ap, ◌∙◌}
+use Rattle.std.proofs.Common.{◌≡◌, ℕ, zero, suc, Bool, true, false, Option, Some, None, List, []}
+use Rattle.std.proofs.Common.{◌∷◌, replicate, refl, ap, ◌∙◌}
 use Rattle.std.specs.Prelude.{Result, Ok, Err, unwrap_or}
 use Rattle.cfs_file.specs.declared.request.Request.{Request}
+use Rattle.cfs_core.specs.declared.doubt.Doubt.{Doubt}
 use Rattle.cfs_core.specs.declared.event.Event.{Event}
 use Rattle.cfs_core.specs.declared.event.SizeEnd.{SizeEnd}
 use Rattle.cfs_core.specs.declared.state.Lease.{Lease}
@@ -14,13 +15,13 @@ use Rattle.cfs_meaning.specs.Devices.{NoneHasEnded}
 use Rattle.cfs_meaning.specs.Inode.{admit_read, apply, back, back_unless, close_or_apply, come_back}
 use Rattle.cfs_meaning.specs.Inode.{dispatch, drop_read, serve}
 use Rattle.cfs_meaning.specs.Inode.{event, finish, finish_with, flush_block, next_step}
-use Rattle.cfs_meaning.specs.Inode.{retire, set_size, skip, trim}
+use Rattle.cfs_meaning.specs.Inode.{retire, set_size, settle, settle_doubt, skip, trim}
 use Rattle.cfs_meaning.specs.Inode.{trim_at, try_to_close, with_passed, without_block, without_held}
 use Rattle.cfs_meaning.specs.Inode.{write_block}
-use Rattle.cfs_meaning.specs.Ways.{Changes, Fault, Halt, Mends, Now, Repeats, Says, Tries}
+use Rattle.cfs_meaning.specs.Ways.{Changes, Fault, Halt, Mends, Now, Repeats, Says, Shrugs, Tries}
 use Rattle.cfs_meaning.specs.Ways.{Waits, Way}
 use Rattle.cfs_meaning.specs.Ways.{breaks, breaks_later, counts, each, end_with, give, mends}
-use Rattle.cfs_meaning.specs.Ways.{rests, says, steps}
+use Rattle.cfs_meaning.specs.Ways.{rests, says, shrugs, steps, whole}
 use Rattle.cfs_meaning.specs.Ways.{unless_fault, waits, well, when, ◌>>=◌}
 use Rattle.cfs_meaning.proofs.Hoare.{Leaves, leave-changes, leave-end, leave-event, leave-give}
 use Rattle.cfs_meaning.proofs.Hoare.{leave-look, leave-then, leave-tries, leave-unless}
@@ -84,6 +85,24 @@ pub leave-replicate : {A : Type 0} {P E : World → Type 0} (n : ℕ) (a : A)
 leave-replicate zero a way one = leave-give (λ w holds. holds)
 leave-replicate {P = P} (suc n) a way one =
     leave-then {Q = λ u. P} one (λ u. leave-replicate n a way one)
+
+-- each of several
+pub leave-each : {A : Type 0} {P E : World → Type 0} (items : List A) (way : A → Way (Unit {0})) →
+    ((a : A) → Leaves P (λ u. P) E (way a)) → Leaves P (λ u. P) E (each items way)
+leave-each [] way one = leave-give (λ w holds. holds)
+leave-each {P = P} (a ∷ items) way one =
+    leave-then {Q = λ u. P} (one a) (λ u. leave-each items way one)
+
+-- tried once, however it ends
+shrugged : {P : World → Type 0} (E : World → Type 0) {way : Way (Unit {0})} →
+    Leaves P (λ u. P) P way → (old : World) (end : Result (Unit {0}) Halt) (new : World) → P old →
+    Shrugs way old end new → IfEnds (λ u. P) E end new
+shrugged E one old end new holds (whole way) = one.by old (Ok tt) new holds way
+shrugged E one old end new holds (shrugs {halt = halt} way) = one.by old (Err halt) new holds way
+
+pub leave-shrugs : {P E : World → Type 0} {way : Way (Unit {0})} → Leaves P (λ u. P) P way →
+    Leaves P (λ u. P) E (Shrugs way)
+leave-shrugs {E = E} one = record { by = shrugged E one }
 
 -- ---- files that have not ended
 
@@ -151,6 +170,16 @@ open-skip ino place =
     open-then (open-close ino place) (λ closed.
     open-then (open-unless closed) (λ u.
     open-then open-event (λ u. open-back ino place)))
+
+open-doubt : (ino : ℕ) (doubt : Option Doubt) → Opens (settle_doubt ino doubt)
+open-doubt ino None = open-give
+open-doubt ino (Some doubt) =
+    open-then (open-close ino doubt.entry.place) (λ closed.
+    open-then (open-unless closed) (λ u.
+    open-then open-event (λ u. open-back ino doubt.entry.place)))
+
+pub open-settle : (ino : ℕ) → Opens (settle ino)
+open-settle ino = open-look (λ w. open-doubt ino _)
 
 pub open-dispatch : (ino place : ℕ) → Opens (dispatch ino place)
 open-dispatch ino place =

@@ -139,7 +139,7 @@ own-size drive seen asked f within low =
 
 -- ---- the world
 
-all-set : (xs : List (Seen WordStep)) (r : ℕ) (seen : Seen WordStep) → IsEvenRegion seen →
+pub all-set : (xs : List (Seen WordStep)) (r : ℕ) (seen : Seen WordStep) → IsEvenRegion seen →
     All IsEvenRegion xs → All IsEvenRegion (set xs r seen)
 all-set xs r seen here all = λ j d low. by-test j d low (j == r) refl
   where

@@ -19,3 +19,6 @@ pub mod Example
 pub mod Scripts
 pub mod Real
 pub mod Home
+pub mod Stock
+pub mod Trees
+pub mod Admits

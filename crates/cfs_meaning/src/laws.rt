@@ -1,5 +1,6 @@
 //! What holds of every run, as contracts of functions that do nothing.
 
+ghost use Rattle.cfs_meaning.specs.Admits.{MarksKeepShown};
 ghost use Rattle.cfs_meaning.specs.Answered.{LinesHaveAnswers};
 ghost use Rattle.cfs_meaning.specs.Devices.{CrashedRunsRecover, CrashesLeaveLess, CrashesRecover};
 ghost use Rattle.cfs_meaning.specs.Devices.{LinesKeepShown, ShownFilesRecover};
@@ -8,6 +9,9 @@ ghost use Rattle.cfs_meaning.specs.Home.{HomesAreShown, MountsShow, NewStoresAre
 ghost use Rattle.cfs_meaning.specs.Laws.{AnswersAreOnly, CalmRunsAnswer, ChangesMakeSteps};
 ghost use Rattle.cfs_meaning.specs.Laws.{CoresStayReached, FilesAreGood, LogsFollowLines};
 ghost use Rattle.cfs_meaning.specs.Laws.{NamesStayLegal, ReadsAreRight, RunsKeepCores};
+ghost use Rattle.cfs_meaning.specs.Stock.{ClosesKeepShown, MountsMapOnce, RunsKeepMapped};
+ghost use Rattle.cfs_meaning.specs.Trees.{LinesChangeWell, LinesKeepStored, NamesKeepShown};
+ghost use Rattle.cfs_meaning.specs.Trees.{NewStoresAreClear, NewStoresAreStored};
 
 /// While a store is mounted, each line makes of the core of each file one that the laws of cores
 /// hold of: so each file's log is legal, and a read is answered by the file before it.
@@ -111,4 +115,55 @@ pub fn mounts_show()
 /// The devices of a new store have everything home.
 pub fn new_stores_are_home()
     ensures { NewStoresAreHome }
+{}
+
+/// Each file block of a file has one block: so it stays until the next mount, whatever fails.
+pub fn runs_keep_mapped()
+    ensures { RunsKeepMapped }
+{}
+
+/// So it is where devices are mounted on which no two blocks have one tag, as on those of a new
+/// store.
+pub fn mounts_map_once()
+    ensures { MountsMapOnce }
+{}
+
+/// A `close` keeps a mounted world shown, whatever it helps, and with the purge of removed files,
+/// each step of it done or refused.
+pub fn closes_keep_shown()
+    ensures { ClosesKeepShown }
+{}
+
+/// A line on names keeps a mounted world shown, and its tree stored, where what it changes of the
+/// tree is one thing at most and makes a tree again, and a file that begins may: whether it is
+/// answered or refused, and each step of it done or refused.
+pub fn names_keep_shown()
+    ensures { NamesKeepShown }
+{}
+
+/// So it is with each line on names whose words have their bounds, and a file is made on a clear
+/// record.
+pub fn lines_change_well()
+    ensures { LinesChangeWell }
+{}
+
+/// The tree of a new store, of any number of blocks and queues, is stored when it is mounted.
+pub fn new_stores_are_stored()
+    ensures { NewStoresAreStored }
+{}
+
+/// Lines that change nothing of the tree keep it stored, whatever fails.
+pub fn lines_keep_stored()
+    ensures { LinesKeepStored }
+{}
+
+/// A mark that an admission sets keeps a world shown, done or refused, where the slots have a word
+/// for it.
+pub fn marks_keep_shown()
+    ensures { MarksKeepShown }
+{}
+
+/// The records of a new store that are not used are clear.
+pub fn new_stores_are_clear()
+    ensures { NewStoresAreClear }
 {}

@@ -1,5 +1,5 @@
 -- Devices that are distinct, in two parts.
-use Rattle.std.proofs.Common.{ℕ, List, [], ◌∷◌, ◌++◌, map, subst}
+use Rattle.std.proofs.Common.{ℕ, List, [], ◌∷◌, ◌++◌, subst}
 use Rattle.std.proofs.lemmas.List.{map-append}
 use Rattle.cfs_pmem.specs.AllMoments.{AreDistinct, IsApartFrom}
 use Rattle.cfs_pmem.specs.Images.{Seen, WordStep, devices_of}
@@ -10,7 +10,7 @@ apart_front : (one : List ℕ) (xs ys : List (List ℕ)) → IsApartFrom one (xs
 apart_front one [] ys apart = tt
 apart_front one (x ∷ xs) ys apart = (apart.0, apart_front one xs ys apart.1)
 
-distinct_front : (xs ys : List (List ℕ)) → AreDistinct (xs ++ ys) → AreDistinct xs
+pub distinct_front : (xs ys : List (List ℕ)) → AreDistinct (xs ++ ys) → AreDistinct xs
 distinct_front [] ys distinct = tt
 distinct_front (x ∷ xs) ys distinct =
     (apart_front x xs ys distinct.0, distinct_front xs ys distinct.1)

@@ -6,14 +6,14 @@ use Rattle.cfs_dir.specs.Change.{changed_by}
 use Rattle.cfs_dir.specs.Namespace.{Namespace}
 use Rattle.cfs_dir.specs.Words.{table_in}
 use Rattle.cfs_image.specs.Checks.{damage_of}
-use Rattle.cfs_pmem.specs.Images.{AllImages, IsImage, IsSure, Seen, WordStep, words_of}
+use Rattle.cfs_pmem.specs.Images.{Seen, WordStep, words_of}
 use Rattle.cfs_pmem.specs.Objects.{seen_at}
 use Rattle.cfs_pmem.proofs.ImageLemmas.{now_is_image}
 use Rattle.cfs_ckpt.specs.Loads.{CanLoad, Loaded, word_in}
 use Rattle.cfs_ckpt.specs.Selects.{Selects}
 use Rattle.cfs_ckpt.proofs.LoadLemmas.{each_at}
 use Rattle.cfs_journal.specs.Standing.{Standing, changes_above}
-use Rattle.cfs_names.specs.Behind.{AreBehind, IsBehind}
+use Rattle.cfs_names.specs.Behind.{AreBehind}
 use Rattle.cfs_image.specs.Layout.{journal_at}
 use Rattle.cfs_survey.specs.Journals.{changes_checks, gates_checks, last_reached, reached}
 use Rattle.cfs_survey.specs.Journals.{table_places}

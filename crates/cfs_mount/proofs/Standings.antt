@@ -1,7 +1,6 @@
 -- The journal of a store that passed its checks stands in its regions.
-use Rattle.std.proofs.Common.{◌≡◌, ◌≢◌, ◌⊎◌, ◌∙◌, inl, inr, ℕ, ◌+◌, ◌-◌, ◌%◌, ◌^◌, ◌<◌, ◌≤◌}
+use Rattle.std.proofs.Common.{◌≡◌, ◌⊎◌, ◌∙◌, inl, inr, ℕ, ◌+◌, ◌-◌, ◌%◌, ◌^◌, ◌<◌, ◌≤◌}
 use Rattle.std.proofs.Common.{List, [], length, get_or, None, refl, sym, ap, subst, arith}
-use Rattle.std.specs.List.{slice_get}
 use Rattle.std.proofs.lemmas.Bool.{cases_eq, cases_lt}
 use Rattle.std.proofs.lemmas.Bool.Decides.{nat_tests}
 use Rattle.std.proofs.lemmas.List.{get_or-map, length-map}
@@ -9,10 +8,10 @@ use Rattle.std.proofs.lemmas.Option.{get_or_from_slice_get, slice_get_within}
 use Rattle.cfs_dir.specs.declared.change.Change.{Change}
 use Rattle.cfs_image.specs.Checks.{damage_of}
 use Rattle.cfs_pmem.specs.AllMoments.{AreDistinct}
-use Rattle.cfs_pmem.specs.Images.{AllImages, IsImage, Seen, WordStep, words_of}
+use Rattle.cfs_pmem.specs.Images.{IsImage, Seen, WordStep, words_of}
 use Rattle.cfs_pmem.specs.Objects.{all_devices, seen_at}
 use Rattle.cfs_pmem.proofs.ImageLemmas.{now_is_image}
-use Rattle.cfs_journal.specs.Records.{Tells, change_of, gate_of}
+use Rattle.cfs_journal.specs.Records.{change_of, gate_of}
 use Rattle.cfs_journal.specs.Standing.{IsNext, IsSpent, Standing, changes_above, place, walk}
 use Rattle.cfs_journal.proofs.Walks.{some_change}
 use Rattle.cfs_survey.specs.Journals.{bound_checks, gates_checks, home_checks, last_reached}

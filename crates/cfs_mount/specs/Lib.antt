@@ -1,2 +1,6 @@
 pub mod Front
+pub mod Names
+pub mod Queues
+pub mod Restored
+pub mod Settled
 pub mod Words

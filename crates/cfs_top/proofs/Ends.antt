@@ -15,11 +15,11 @@ use Rattle.cfs_top.specs.Stage.{are_served}
 use Rattle.cfs_top.specs.declared.out_line.OutLine.{OutLine}
 use Rattle.cfs_top.specs.declared.status.Status.{Status}
 use Rattle.cfs_top.specs.declared.status.Status.TheVariants.{Done, Usage, Script, Image, Input}
-use Rattle.cfs_top.specs.declared.status.Status.TheVariants.{Output, Shelf, NoMemory, Absent}
+use Rattle.cfs_top.specs.declared.status.Status.TheVariants.{Output, Shelf, NoMemory, Absent, NoFile}
 use Rattle.cfs_image.specs.declared.refusal.ImageRefusal.{ImageRefusal}
 use Rattle.cfs_image.specs.declared.refusal.ImageRefusal.TheVariants as refusals
-use Rattle.cfs_top.specs.Command.{IsCheck, IsMkfs, IsUpgrade}
-use Rattle.cfs_top.specs.Outside.{ArePlay, CheckIsDue, Ends, IsDue, IsHeeded}
+use Rattle.cfs_top.specs.Command.{IsCheck, IsDump, IsMkfs, IsUpgrade}
+use Rattle.cfs_top.specs.Outside.{ArePlay, CheckIsDue, DoLoad, DumpIsDue, Ends, IsDue, IsHeeded}
 use Rattle.cfs_top.specs.Outside.{LeavesShelf, Loads, Makes, MaySay, PlayIsDue}
 use Rattle.cfs_top.specs.Outside.{SaveNone, Says, SaysWhy, Shelved, UpgradeIsDue, Upgrades, Writes}
 use Rattle.cfs_top.specs.Outside.{WritesAll, WritesFront}
@@ -40,6 +40,7 @@ writes_all due Output before after heeded all = absurd heeded
 writes_all due Shelf before after heeded all = absurd heeded
 writes_all due NoMemory before after heeded all = absurd heeded
 writes_all due Absent before after heeded all = all
+writes_all due NoFile before after heeded all = all
 
 -- a text that is due was written, or a front of it
 pub said_writes : (due : Status → List ℕ → Type 0) (result status : Status) (text : List ℕ) (before after : Option (List ℕ)) →
@@ -130,6 +131,8 @@ writes_weaker due other NoMemory before after more (inr front) =
     inr (front_weaker due other before after more front)
 writes_weaker due other Absent before after more w =
     all_weaker due other Absent before after (more Absent) w
+writes_weaker due other NoFile before after more w =
+    all_weaker due other NoFile before after (more NoFile) w
 
 -- what `play` wrote is what the call wrote
 pub play_writes : (words : List (List ℕ)) (files : Option Files) (left rest : Option (List ℕ))
@@ -199,6 +202,7 @@ mkfs_ends NoMemory words image blocks queues left written old new is made = reco
   shelf = made;
 }
 mkfs_ends Absent words image blocks queues left written old new is made = absurd made
+mkfs_ends NoFile words image blocks queues left written old new is made = absurd made
 
 -- what became of the shelf by `upgrade` is what became of it by the call
 upgrade_leaves : (status : Status) (words : List (List ℕ)) (image name : List ℕ) (old new : Shelved)
@@ -230,6 +234,7 @@ upgrade_leaves Shelf words image name old new is (inr save) =
     })
 upgrade_leaves NoMemory words image name old new is made = made
 upgrade_leaves Absent words image name old new is made = made
+upgrade_leaves NoFile words image name old new is made = made
 
 -- a call that upgraded an image, or wrote why not, ended so
 pub upgrade_ends : (status : Status) (words : List (List ℕ)) (image name : List ℕ)
@@ -261,6 +266,7 @@ kept_shelf Output words shelf none other = refl
 kept_shelf Shelf words shelf none other = absurd (other refl)
 kept_shelf NoMemory words shelf none other = refl
 kept_shelf Absent words shelf none other = refl
+kept_shelf NoFile words shelf none other = refl
 
 pub usage_shelf : Usage ≡ Shelf → ⊥
 usage_shelf same = cc
@@ -268,18 +274,34 @@ usage_shelf same = cc
 pub output_shelf : Output ≡ Shelf → ⊥
 output_shelf same = cc
 
--- what became of the shelf by `check` is what became of it by the call
-check_leaves : (status : Status) (words : List (List ℕ)) (image : List ℕ) (old new : Shelved) →
-    IsCheck words image → SaveNone words → Loads status old new → LeavesShelf status words old new
-check_leaves Done words image old new is none made = inr (none, made)
-check_leaves Usage words image old new is none made = absurd made
-check_leaves Script words image old new is none made = absurd made
-check_leaves Image words image old new is none made = made
-check_leaves Input words image old new is none made = absurd made
-check_leaves Output words image old new is none made = made
-check_leaves Shelf words image old new is none made = inl (inr (image, is), made)
-check_leaves NoMemory words image old new is none made = made
-check_leaves Absent words image old new is none made = made
+-- what became of the shelf by a call that only loads
+loads_leave : (status : Status) (words : List (List ℕ)) (old new : Shelved) → DoLoad words →
+    SaveNone words → Loads status old new → LeavesShelf status words old new
+loads_leave Done words old new load none made = inr (none, made)
+loads_leave Usage words old new load none made = absurd made
+loads_leave Script words old new load none made = absurd made
+loads_leave Image words old new load none made = made
+loads_leave Input words old new load none made = absurd made
+loads_leave Output words old new load none made = made
+loads_leave Shelf words old new load none made = inl (load, made)
+loads_leave NoMemory words old new load none made = made
+loads_leave Absent words old new load none made = made
+loads_leave NoFile words old new load none made = made
+
+-- a call that only loads, and wrote what is due of it, ended so
+load_ends : (due : Status → List ℕ → Type 0) (status : Status) (words : List (List ℕ))
+    (left before after : Option (List ℕ)) (old new : Shelved) → DoLoad words → SaveNone words →
+    ((s : Status) (text : List ℕ) → due s text → IsDue words old.files left left s text) →
+    Writes due status before after → Loads status old new →
+    Ends status words (record { left = left; written = before; shelf = old })
+    (record { left = left; written = after; shelf = new })
+load_ends due status words left before after old new load none more w made = record {
+  writes = writes_weaker due (IsDue words old.files left left) status before after more w;
+  asked = λ input. absurd (subst (λ s. Loads s old new) input made);
+  came = ([], Consumes-none left);
+  unread = λ other. refl;
+  shelf = loads_leave status words old new load none made;
+}
 
 -- a call that told what an image holds, or what is wrong with it, ended so
 pub check_ends : (status : Status) (words : List (List ℕ)) (image : List ℕ)
@@ -288,16 +310,21 @@ pub check_ends : (status : Status) (words : List (List ℕ)) (image : List ℕ)
     Writes (CheckIsDue old.files image) status before after → Loads status old new →
     Ends status words (record { left = left; written = before; shelf = old })
     (record { left = left; written = after; shelf = new })
-check_ends status words image left before after old new is none w made = record {
-  writes =
-      writes_weaker (CheckIsDue old.files image) (IsDue words old.files left left) status before
-      after
-      (λ s text due. inr (inr (inr (inl (image, (is, due)))))) w;
-  asked = λ input. absurd (subst (λ s. Loads s old new) input made);
-  came = ([], Consumes-none left);
-  unread = λ none. refl;
-  shelf = check_leaves status words image old new is none made;
-}
+check_ends status words image left before after old new is none w made =
+    load_ends (CheckIsDue old.files image) status words left before after old new
+    (inr (inl (image, is))) none (λ s text due. inr (inr (inr (inl (image, (is, due)))))) w made
+
+-- a call that wrote the bytes of a file, or why not, ended so
+pub dump_ends : (status : Status) (words : List (List ℕ)) (image : List ℕ) (path : List (List ℕ))
+    (left before after : Option (List ℕ)) (old new : Shelved) →
+    IsDump words image path → SaveNone words →
+    Writes (DumpIsDue old.files image path) status before after → Loads status old new →
+    Ends status words (record { left = left; written = before; shelf = old })
+    (record { left = left; written = after; shelf = new })
+dump_ends status words image path left before after old new is none w made =
+    load_ends (DumpIsDue old.files image path) status words left before after old new
+    (inr (inr (image, (path, is)))) none
+    (λ s text due. inr (inr (inr (inr (inl (image, (path, (is, due)))))))) w made
 
 -- a text for which memory may lack
 pub may_say_writes : (due : Status → List ℕ → Type 0) (result status : Status) (text : List ℕ)

@@ -6,8 +6,9 @@ use Rattle.std.specs.Prelude.{codes}
 use Rattle.std.specs.Fmt.{decimal}
 use Rattle.std.specs.Str.{bytes_eq}
 use Rattle.cfs_image.specs.declared.layout.TheConstants.{FEWEST_BLOCKS, FEWEST_QUEUES, MOST_BLOCKS, MOST_QUEUES}
-use Rattle.cfs_top.specs.Command.{IsCheck, IsMkfs, IsPlay, IsUpgrade}
-use Rattle.cfs_top.specs.Command.{is_check, is_mkfs, is_play, is_upgrade}
+use Rattle.cfs_dir.specs.Path.{IsPathText}
+use Rattle.cfs_top.specs.Command.{IsCheck, IsDump, IsMkfs, IsPlay, IsUpgrade}
+use Rattle.cfs_top.specs.Command.{is_check, is_dump, is_mkfs, is_play, is_upgrade}
 use Rattle.cfs_top.specs.Command.{is_image_name}
 
 -- three words, of which two are known
@@ -85,3 +86,26 @@ IsUpgrade-four (a ∷ b ∷ c ∷ d ∷ []) command image new long second third 
     }
 IsUpgrade-four (a ∷ b ∷ c ∷ d ∷ e ∷ rest) command image new long second third fourth is name
     new_name apart = absurd (omega arith)
+
+-- four words, of which two are known and one is the text of a path
+pub IsDump-four : (words : List (List ℕ)) (command image text : List ℕ) (path : List (List ℕ)) →
+    length words ≡ 4 → command ≡ get_or words 1 command → image ≡ get_or words 2 image →
+    text ≡ get_or words 3 text → is_dump command ≡ true → is_image_name image ≡ true →
+    IsPathText text path → IsDump words image path
+IsDump-four [] command image text path long second third fourth is name spelled = cc
+IsDump-four (a ∷ []) command image text path long second third fourth is name spelled =
+    absurd (omega arith)
+IsDump-four (a ∷ b ∷ []) command image text path long second third fourth is name spelled =
+    absurd (omega arith)
+IsDump-four (a ∷ b ∷ c ∷ []) command image text path long second third fourth is name spelled =
+    absurd (omega arith)
+IsDump-four (a ∷ b ∷ c ∷ d ∷ []) command image text path long second third fourth is name spelled =
+    let named : command ≡ codes "dump" = (bytes_eq-Decides command (codes "dump")).0 is in
+    record {
+      program = a;
+      are = cc;
+      name = name;
+      names = spelled.names_are;
+    }
+IsDump-four (a ∷ b ∷ c ∷ d ∷ e ∷ rest) command image text path long second third fourth is name
+    spelled = absurd (omega arith)

@@ -5,6 +5,7 @@ use Rattle.std.specs.Char.{is_ascii_alphanumeric}
 use Rattle.std.specs.List.{list_all}
 use Rattle.std.specs.Fmt.{decimal}
 use Rattle.std.specs.Str.{bytes_eq}
+use Rattle.cfs_dir.specs.Path.{ArePathNames, text_of}
 use Rattle.cfs_image.specs.declared.layout.TheConstants.{FEWEST_BLOCKS, FEWEST_QUEUES, MOST_BLOCKS}
 use Rattle.cfs_image.specs.declared.layout.TheConstants.{MOST_QUEUES}
 
@@ -60,3 +61,13 @@ pub record IsCheck (words : List (List ℕ)) (image : List ℕ) : Type 0 where
   pub program : List ℕ
   pub are : words ≡ program ∷ codes "check" ∷ image ∷ []
   pub name : IsTrue (is_image_name image)
+
+abbrev pub is_dump : List ℕ → Bool
+is_dump word = bytes_eq word (codes "dump")
+
+-- the words are the program's name, `dump`, an image's name and a path
+pub record IsDump (words : List (List ℕ)) (image : List ℕ) (path : List (List ℕ)) : Type 0 where
+  pub program : List ℕ
+  pub are : words ≡ program ∷ codes "dump" ∷ image ∷ text_of path ∷ []
+  pub name : IsTrue (is_image_name image)
+  pub names : ArePathNames path

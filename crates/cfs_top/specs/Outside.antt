@@ -5,6 +5,7 @@ use Rattle.std.specs.Io.KnownBytes.{Appends, Consumes, IsAtEnd}
 use Rattle.cfs_file.specs.declared.entry.Entry.{Entry}
 use Rattle.cfs_io.specs.declared.script.TheConstants.{LONGEST_SCRIPT}
 use Rattle.cfs_pmem.specs.Faults.{Rose}
+use Rattle.cfs_dump.specs.Dumped.{dumped}
 use Rattle.cfs_fsck.specs.Images.{image_checks, image_words}
 use Rattle.cfs_fsck.specs.Reports.{report_of}
 use Rattle.cfs_image.specs.declared.refusal.ImageRefusal.{ImageRefusal}
@@ -21,13 +22,13 @@ use Rattle.cfs_script.specs.Script.{IsScript, IsNoScript}
 use Rattle.cfs_top.specs.declared.out_line.OutLine.{OutLine}
 use Rattle.cfs_top.specs.declared.status.Status.{Status}
 use Rattle.cfs_top.specs.declared.status.Status.TheVariants.{Done, Usage, Script, Image, Input}
-use Rattle.cfs_top.specs.declared.status.Status.TheVariants.{Output, Shelf, NoMemory, Absent}
-use Rattle.cfs_top.specs.Command.{IsCheck, IsMkfs, IsPlay, IsUpgrade}
+use Rattle.cfs_top.specs.declared.status.Status.TheVariants.{Output, Shelf, NoMemory, Absent, NoFile}
+use Rattle.cfs_top.specs.Command.{IsCheck, IsDump, IsMkfs, IsPlay, IsUpgrade}
 use Rattle.cfs_top.specs.Order.{KeepsOrder}
 use Rattle.cfs_top.specs.Play.{Run}
 use Rattle.cfs_top.specs.Stage.{are_served}
-use Rattle.cfs_top.specs.Text.{absent_text, damaged_text, refused_text, report_text, texts}
-use Rattle.cfs_top.specs.Text.{usage_text}
+use Rattle.cfs_top.specs.Text.{absent_text, damaged_text, no_file_text, refused_text, report_text}
+use Rattle.cfs_top.specs.Text.{texts, usage_text}
 
 -- what is told of a shelf at one moment: its files, and how many loads and saves have met a fault
 pub record Shelved : Type 0 where
@@ -130,6 +131,23 @@ CheckIsDue files image Done text = IsReported files image text
 CheckIsDue files image Image text = IsDamaged image_checks files image text
 CheckIsDue files image other text = LoadIsDue files image other text
 
+-- there is a file of this name, an image that passes all checks, and this is the file at a path of
+-- its tree
+pub record IsFound (files : Option Files) (image : List ℕ) (path : List (List ℕ))
+    (file : Option (List ℕ)) : Type 0 where
+  pub bytes : List ℕ
+  pub found : Finds files image bytes
+  pub sound : damage_of (image_checks bytes) ≡ None
+  pub is_file : file ≡ dumped bytes path
+
+-- the status that `dump` of a path in an image is to end with, and the text that it is to write: the
+-- file's bytes
+abbrev pub DumpIsDue : Option Files → List ℕ → List (List ℕ) → Status → List ℕ → Type 0
+DumpIsDue files image path Done text = IsFound files image path (Some text)
+DumpIsDue files image path NoFile text = IsFound files image path None × (text ≡ no_file_text)
+DumpIsDue files image path Image text = IsDamaged image_checks files image text
+DumpIsDue files image path other text = LoadIsDue files image other text
+
 -- the words are `play` of some image
 abbrev pub ArePlay : List (List ℕ) → Type 0
 ArePlay words = (image : List ℕ) × IsPlay words image
@@ -147,13 +165,18 @@ AreUpgrade words = (image : List ℕ) × ((new : List ℕ) × IsUpgrade words im
 abbrev pub AreCheck : List (List ℕ) → Type 0
 AreCheck words = (image : List ℕ) × IsCheck words image
 
+-- the words are `dump` of a path in some image
+abbrev pub AreDump : List (List ℕ) → Type 0
+AreDump words = (image : List ℕ) × ((path : List (List ℕ)) × IsDump words image path)
+
 -- the words are no command that saves
 abbrev pub SaveNone : List (List ℕ) → Type 0
 SaveNone words = (AreMkfs words → ⊥) × (AreUpgrade words → ⊥)
 
 -- the words are no command
 abbrev pub AreNone : List (List ℕ) → Type 0
-AreNone words = (ArePlay words → ⊥) × (AreCheck words → ⊥) × SaveNone words
+AreNone words =
+    (ArePlay words → ⊥) × (AreCheck words → ⊥) × (AreDump words → ⊥) × SaveNone words
 
 -- the words are `upgrade` of an image, and this is due of it
 abbrev pub IsDueOfUpgrade : List (List ℕ) → Option Files → Status → List ℕ → Type 0
@@ -165,6 +188,11 @@ abbrev pub IsDueOfCheck : List (List ℕ) → Option Files → Status → List �
 IsDueOfCheck words files status text =
     (image : List ℕ) × (IsCheck words image × CheckIsDue files image status text)
 
+-- the words are `dump` of a path in an image, and this is due of it
+abbrev pub IsDueOfDump : List (List ℕ) → Option Files → Status → List ℕ → Type 0
+IsDueOfDump words files status text = (image : List ℕ) × ((path : List (List ℕ))
+    × (IsDump words image path × DumpIsDue files image path status text))
+
 -- The status that the call is to end with, and the text that it is to write: `mkfs` writes none.
 abbrev pub IsDue : List (List ℕ) → Option Files → Option (List ℕ) → Option (List ℕ) → Status
     → List ℕ → Type 0
@@ -173,7 +201,8 @@ IsDue words files left rest status text =
     ⊎ ((AreMkfs words × (status ≡ Done) × (text ≡ []))
     ⊎ (IsDueOfUpgrade words files status text
     ⊎ (IsDueOfCheck words files status text
-    ⊎ (AreNone words × (status ≡ Usage) × (text ≡ usage_text)))))
+    ⊎ (IsDueOfDump words files status text
+    ⊎ (AreNone words × (status ≡ Usage) × (text ≡ usage_text))))))
 
 -- some front of a text that is due was written
 pub record WritesFront (due : Status → List ℕ → Type 0)
@@ -237,7 +266,7 @@ pub record FailsToSave (words : List (List ℕ)) (before after : Shelved) : Type
 
 -- the words are a command that loads
 abbrev pub DoLoad : List (List ℕ) → Type 0
-DoLoad words = AreUpgrade words ⊎ AreCheck words
+DoLoad words = AreUpgrade words ⊎ (AreCheck words ⊎ AreDump words)
 
 -- what became of the shelf
 abbrev pub LeavesShelf : Status → List (List ℕ) → Shelved → Shelved → Type 0

@@ -17,6 +17,9 @@ refused_text = codes "script refused\n"
 abbrev pub absent_text : List ℕ
 absent_text = codes "absent\n"
 
+abbrev pub no_file_text : List ℕ
+no_file_text = codes "no file\n"
+
 -- what the first check of an image that fails has found, and where, and against which number
 abbrev pub damaged_text : Damage → List ℕ
 damaged_text damage =

@@ -1,15 +1,17 @@
 //! The words of the command line.
 
 ghost use Rattle.std.specs.Prelude.{◌≡◌, ◌==◌, ◌≤◌, ◌&&◌, List, ℕ, get_or, nat_le, length, IfSome};
-ghost use Rattle.std.specs.Prelude.{IfNone};
+ghost use Rattle.std.specs.Prelude.{IfNone, IfOk};
 ghost use Rattle.std.specs.Fmt.{decimal};
 ghost use Rattle.std.specs.List.{list_all};
-ghost use Rattle.cfs_top.specs.Command.{IsCheck, IsMkfs, IsPlay, IsUpgrade};
+ghost use Rattle.cfs_top.specs.Command.{IsCheck, IsDump, IsMkfs, IsPlay, IsUpgrade};
 ghost use Rattle.cfs_top.specs.Command.{is_image_byte, is_image_name};
 
-use cfs_file::Word;
+use cfs_dir::{Path, PathRefusal};
+use cfs_file::{NoMemory, Word};
 use cfs_image::{FEWEST_BLOCKS, FEWEST_QUEUES, MOST_BLOCKS, MOST_QUEUES};
 use cfs_words::number_in;
+use std::alloc::Global;
 
 /// A store that is to be made.
 #[derive(Clone, Copy)]
@@ -29,6 +31,15 @@ pub(crate) struct Upgrade<'a> {
     pub(crate) image: &'a Word,
     /// The name of the new image.
     pub(crate) new: &'a Word,
+}
+
+/// A file whose bytes are to be printed.
+#[derive(Drop)]
+pub(crate) struct Dump<'a> {
+    /// The name of the image.
+    pub(crate) image: &'a Word,
+    /// Where the file is in the image's tree.
+    pub(crate) path: Path,
 }
 
 /// The store of `mkfs IMAGE BLOCKS QUEUES`, if the words are that command. The first word is the
@@ -117,6 +128,33 @@ fn is_check(word: &Word) -> bool
     ensures { result ≡ Rattle.cfs_top.specs.Command.is_check word.now }
 {
     word.as_slice() == b"check".as_slice()
+}
+
+/// The file of `dump IMAGE PATH`, if the words are that command. The first word is the program's
+/// name. Takes memory for the path.
+pub(crate) fn file_to_dump(alloc: Global, words: &[Word]) -> Result<Option<Dump<'_>>, NoMemory>
+    ensures found { IfOk result (λ file.
+        IfSome file (λ dump. IsDump words.now dump.image.now dump.path)) }
+    ensures none { IfOk result (λ file. IfNone file
+        ((image : List ℕ) (path : List (List ℕ)) → IsDump words.now image path → ⊥)) }
+{
+    let [_, command, image, path] = words else {
+        return Ok(None);
+    };
+    if !is_dump(command) || !is_image(image) {
+        return Ok(None);
+    }
+    match Path::parse(alloc, path.as_slice()) {
+        Ok(path) => Ok(Some(Dump { image, path })),
+        Err(PathRefusal::Malformed) => Ok(None),
+        Err(PathRefusal::NoMemory) => Err(NoMemory),
+    }
+}
+
+fn is_dump(word: &Word) -> bool
+    ensures { result ≡ Rattle.cfs_top.specs.Command.is_dump word.now }
+{
+    word.as_slice() == b"dump".as_slice()
 }
 
 fn is_play(word: &Word) -> bool

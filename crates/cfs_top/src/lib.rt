@@ -4,6 +4,7 @@
 
 mod check;
 mod command;
+mod dump;
 mod out_line;
 mod play;
 mod printed;

@@ -24,6 +24,8 @@ pub enum Status {
     NoMemory,
     /// The shelf has no image of that name.
     Absent,
+    /// The image has no file at that path.
+    NoFile,
 }
 
 impl Status {
@@ -41,6 +43,7 @@ impl Status {
             Status::Shelf => 6,
             Status::NoMemory => 7,
             Status::Absent => 8,
+            Status::NoFile => 9,
         }
     }
 }

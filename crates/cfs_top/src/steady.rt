@@ -10,7 +10,10 @@ ghost use Rattle.cfs_top.specs.Outside.{Ends, Makes, PlayIsDue, Writes};
 
 use crate::Status;
 use crate::check::check;
-use crate::command::{image_to_check, image_to_play, image_to_upgrade, store_to_make};
+use crate::command::{
+    file_to_dump, image_to_check, image_to_play, image_to_upgrade, store_to_make,
+};
+use crate::dump::dump;
 use crate::play::{PlayEnd, play_script};
 use crate::say::say;
 use crate::stage::are_served;
@@ -37,6 +40,10 @@ use std::alloc::Global;
 ///
 /// `check IMAGE` writes one line: what the store of an image holds, or the first check of it that
 /// fails. It reads no input, and the shelf stays as it was.
+///
+/// `dump IMAGE PATH` writes the bytes of the file at a path, as a mount of the image would find it,
+/// and nothing else; or that no file is there, as at a directory; or the first check of the image
+/// that fails. It reads no input, and the shelf stays as it was.
 pub fn crossfs_steady<S: Source, K: Sink, H: Shelf>(
     alloc: Global,
     words: &[Word],
@@ -80,6 +87,11 @@ pub fn crossfs_steady<S: Source, K: Sink, H: Shelf>(
     }
     if let Some(image) = image_to_check(words) {
         return check(alloc, image, output, shelf);
+    }
+    match file_to_dump(alloc, words) {
+        Ok(Some(file)) => return dump(alloc, file.image, &file.path, output, shelf),
+        Ok(None) => {}
+        Err(NoMemory) => return Status::NoMemory,
     }
     match image_to_play(words) {
         Some(_) => play(alloc, input, output),

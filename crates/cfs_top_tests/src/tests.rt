@@ -186,6 +186,7 @@ fn each_status_has_its_number(rt: HostRuntime) {
         (Status::Shelf, 6),
         (Status::NoMemory, 7),
         (Status::Absent, 8),
+        (Status::NoFile, 9),
     ] {
         assert_eq!(rt; status.number(), number);
     }
@@ -476,6 +477,95 @@ fn upgrade_refuses_an_image_that_would_be_unsound(rt: HostRuntime) -> Result<(),
         assert_eq!(rt; ended.output.as_slice(), expected.as_bytes());
         let other = upgrade(alloc, &mut shelf, "f", "g", None)?;
         assert_eq!(rt; other.status, Status::Absent);
+    }
+    Ok(())
+}
+
+/// An image of 16 blocks and one queue with a file `/a` of six bytes in a block, of which a write
+/// in a slot changes three, and a directory `/b`.
+fn image_with_a_file(alloc: Global) -> Result<Vec<u8>, NoMemory> {
+    let mut image = new_image(alloc, 16, 1)?.into_vec();
+    let file = [2, 1, 1, 0o644, 10, 10, 1, 97];
+    let directory = [3, 1, 2, 0o755, 10, 10, 1, 98];
+    for (at, words) in [(144, file), (240, directory)] {
+        for (k, word) in words.iter().enumerate() {
+            put_word(&mut image, at + 8 * k, *word);
+        }
+    }
+    for (at, word) in [
+        (40, 4),
+        (57_408, 6),
+        (59_448, 1),
+        (59_464, 2),
+        (59_480, 65_539),
+        (59_488, 1),
+        (59_496, u64::from_le_bytes(*b"HEL\0\0\0\0\0")),
+        (138_064, 131_073),
+        (138_072, u64::from_le_bytes(*b"hello\n\0\0")),
+    ] {
+        put_word(&mut image, at, word);
+    }
+    Ok(image)
+}
+
+/// A shelf whose call of that number fails: the image with a file as `f`, and the same with a wrong
+/// header as `g`.
+fn shelf_with_a_file(alloc: Global, failing: Option<u64>) -> Result<MemShelf, NoMemory> {
+    let mut image = image_with_a_file(alloc)?;
+    let mut files = Vec::new(alloc);
+    for name in ["f", "g"] {
+        let word = Word::from_slice(alloc, name.as_bytes())?;
+        files.push((word, Bytes::from_slice(alloc, &image)?))?;
+        put_word(&mut image, 8, 3);
+    }
+    Ok(MemShelf::with_files(alloc, files, numbers(alloc, failing)?))
+}
+
+/// Calls `dump` over a source whose first read fails, and a sink whose write of that number does.
+fn dump(
+    alloc: Global,
+    image: &str,
+    path: &str,
+    failing: Option<u64>,
+    write: Option<u64>,
+) -> Result<Ended, NoMemory> {
+    let words = words_of(alloc, &["crossfs", "dump", image, path])?;
+    let mut shelf = shelf_with_a_file(alloc, failing)?;
+    let mut input = MemSource::new(Vec::new(alloc), numbers(alloc, Some(1))?);
+    let mut output = MemSink::new(alloc, numbers(alloc, write)?);
+    let status = crossfs_steady(alloc, words.as_slice(), &mut input, &mut output, &mut shelf);
+    Ok(Ended {
+        status,
+        output: Vec::from_slice(alloc, output.written())?,
+    })
+}
+
+#[test]
+fn dump_prints_a_file_or_says_why_not(rt: HostRuntime) -> Result<(), Fail> {
+    let damaged = "image refused: offset 8 found 3 against 2\n";
+    for (image, path, failing, write, status, expected) in [
+        ("f", "/a", None, None, Status::Done, "HELlo\n"),
+        ("f", "/b", None, None, Status::NoFile, "no file\n"),
+        ("f", "/", None, None, Status::NoFile, "no file\n"),
+        ("f", "/c", None, None, Status::NoFile, "no file\n"),
+        ("f", "/a/a", None, None, Status::NoFile, "no file\n"),
+        ("f", "a", None, None, Status::Usage, "usage\n"),
+        ("f", "/a/", None, None, Status::Usage, "usage\n"),
+        ("f", "", None, None, Status::Usage, "usage\n"),
+        ("-f", "/a", None, None, Status::Usage, "usage\n"),
+        ("g", "/a", None, None, Status::Image, damaged),
+        ("none", "/a", None, None, Status::Absent, "absent\n"),
+        ("f", "/a", Some(1), None, Status::Shelf, ""),
+        ("f", "/a", None, Some(1), Status::Output, ""),
+        ("f", "/c", None, Some(1), Status::Output, ""),
+    ] {
+        let ended = dump(rt.alloc(), image, path, failing, write)?;
+        assert_eq!(rt;
+            ended.output.as_slice(),
+            expected.as_bytes(),
+            "{image} {path}"
+        );
+        assert_eq!(rt; ended.status, status, "{image} {path}");
     }
     Ok(())
 }

@@ -1,0 +1,4 @@
+pub mod Still
+pub mod Stores
+pub mod Moments
+pub mod Causes

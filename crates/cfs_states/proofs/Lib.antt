@@ -1,0 +1,13 @@
+pub mod Ranges
+pub mod Ascending
+pub mod Mapped
+pub mod Loaded
+pub mod Handed
+pub mod Orders
+pub mod Begins
+pub mod Known
+pub mod Owners
+pub mod Divided
+pub mod Whole
+pub mod Made
+pub mod Behind
